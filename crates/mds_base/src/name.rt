@@ -1,0 +1,142 @@
+ghost use Rattle.std.specs.Prelude.{◌≡◌, ◌↔◌, IsTrue, IfOk, OnOk, IsErrOf, false};
+ghost use Rattle.std.specs.Prelude.{nat_eq};
+ghost use Rattle.std.specs.List.{list_all};
+ghost use Rattle.std.specs.Cmp.{partial_order_from_own_ties};
+ghost use Rattle.std.specs.Cmp.Lexicographic.{pointwise, slice_cmp};
+ghost use Rattle.std.specs.Cmp.Rules.{comparing};
+ghost use Rattle.std.specs.Ordering.{nat_cmp, as_partial_cmp};
+ghost use Rattle.std.proofs.Common.{rules};
+ghost use Rattle.mds_base.specs.Name.{is_name, is_dots, is_name_byte};
+
+use std::alloc::{AllocError, Global};
+use std::cmp::Ordering;
+use std::marker::Model;
+
+use thiserror::Error;
+
+/// Why bytes were not read as a name.
+#[derive(Debug, Drop, Error)]
+pub enum NameFault {
+    /// The bytes are not 1 to 255 in number, have a `/` or a NUL among them, or are `.` or `..`.
+    #[error("not a name")]
+    BadName,
+    /// There was no memory for the name.
+    #[error("out of memory")]
+    OutOfMemory,
+}
+
+impl From<AllocError> for NameFault {
+    ghost use Rattle.mds_base.specs.declared.name.NameFault.{NameFault};
+
+    ghost from_gives = { λ _ e. e ≡ NameFault.OutOfMemory };
+
+    fn from(_: AllocError) -> NameFault {
+        NameFault::OutOfMemory
+    }
+}
+
+/// The name of an entry in a directory: 1 to 255 bytes, none of them `/` or NUL, and neither `.` nor `..`
+/// (`docs/DEFINITIONS.md`, "Name"). Names are ordered by their bytes.
+#[derive(Debug, Drop)]
+pub struct Name {
+    bytes: Vec<u8>,
+}
+
+impl Model for Name {
+    ghost use Rattle.std.specs.Prelude.{List, ℕ, IsTrue};
+    ghost use Rattle.mds_base.specs.Name.{is_name};
+
+    ghost Value = { List ℕ };
+
+    ghost view = { λ a. a.bytes.items };
+
+    ghost invariant = { λ a. IsTrue (is_name a.bytes.items) };
+}
+
+impl Name {
+    /// Reads bytes as a name. It is refused as `BadName` exactly where they are none, and as `OutOfMemory` where
+    /// there is no memory for it.
+    pub fn read(alloc: Global, bytes: &[u8]) -> Result<Name, NameFault>
+        ensures ok { IfOk result (λ name. name ≡ bytes.now) }
+        ensures is_name { OnOk result (IsTrue (is_name bytes.now)) }
+        ensures bad_name { IsErrOf result NameFault.BadName ↔ (is_name bytes.now ≡ false) }
+    {
+        if !is_name_of(bytes) {
+            return Err(NameFault::BadName);
+        }
+        let bytes = Vec::from_slice(alloc, bytes)?;
+        Ok(Name { bytes })
+    }
+
+    /// The bytes of the name.
+    pub fn bytes(&self) -> &[u8]
+        ensures value { result.now ≡ self.now }
+        ensures is_name { IsTrue (is_name self.now) }
+    {
+        self.bytes.as_slice()
+    }
+
+    /// A copy of the name; it is refused only where there is no memory for it.
+    pub fn copy(&self, alloc: Global) -> Result<Name, AllocError>
+        ensures { IfOk result (λ name. name ≡ self.now) }
+    {
+        let bytes = Vec::from_slice(alloc, self.bytes.as_slice())?;
+        Ok(Name { bytes })
+    }
+}
+
+impl PartialEq for Name {
+    ghost eq = { pointwise nat_eq };
+
+    ghost laws = { Prim.search (comparing, rules) };
+
+    fn eq(&self, other: &Name) -> bool {
+        self.bytes == other.bytes
+    }
+}
+
+impl Eq for Name {
+    ghost laws = { Prim.search (comparing, rules) };
+}
+
+impl PartialOrd for Name {
+    ghost partial_cmp = { as_partial_cmp (slice_cmp nat_cmp) };
+
+    ghost laws = { partial_order_from_own_ties (Prim.search (comparing, rules)) (Prim.search (comparing, rules)) };
+
+    fn partial_cmp(&self, other: &Name) -> Option<Ordering> {
+        Some(self.cmp(other))
+    }
+}
+
+impl Ord for Name {
+    ghost cmp = { slice_cmp nat_cmp };
+
+    ghost total = { Prim.search (comparing, rules) };
+
+    ghost matches_partial_cmp = { Prim.search (comparing, rules) };
+
+    ghost matches_eq = { Prim.search (comparing, rules) };
+
+    fn cmp(&self, other: &Name) -> Ordering {
+        self.bytes.as_slice().cmp(other.bytes.as_slice())
+    }
+}
+
+fn is_name_of(bytes: &[u8]) -> bool
+    ensures { result ≡ is_name bytes.now }
+{
+    1 <= bytes.len() && bytes.len() <= 255 && !is_dots_of(bytes) && is_plain(bytes)
+}
+
+fn is_dots_of(bytes: &[u8]) -> bool
+    ensures { result ≡ is_dots bytes.now }
+{
+    bytes == b".".as_slice() || bytes == b"..".as_slice()
+}
+
+fn is_plain(bytes: &[u8]) -> bool
+    ensures { result ≡ list_all is_name_byte bytes.now }
+{
+    bytes.iter().all(|byte| *byte != b'/' && *byte != 0)
+}
