@@ -1,1 +1,4 @@
 pub mod Name
+pub mod Entries
+pub mod PlainRules
+pub mod History

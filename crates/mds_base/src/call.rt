@@ -8,13 +8,25 @@ use std::alloc::{AllocError, Global};
 #[derive(Debug, Drop)]
 pub enum Call {
     /// Makes a file of mode 420 and size 0.
-    Create { dir: u64, name: Name },
+    Create {
+        dir: u64,
+        name: Name,
+    },
     /// Makes a directory of mode 493, to which the service gives a number.
-    Mkdir { dir: u64, name: Name },
+    Mkdir {
+        dir: u64,
+        name: Name,
+    },
     /// Removes a file.
-    Remove { dir: u64, name: Name },
+    Remove {
+        dir: u64,
+        name: Name,
+    },
     /// Asks for the attributes of an entry.
-    Lookup { dir: u64, name: Name },
+    Lookup {
+        dir: u64,
+        name: Name,
+    },
     /// Sets the mode (from 0 to 4095) and the size (in bytes) of an entry.
     Setattr {
         dir: u64,
@@ -23,13 +35,26 @@ pub enum Call {
         size: u64,
     },
     /// Lists a directory.
-    Scan { dir: u64 },
+    Scan {
+        dir: u64,
+    },
     /// Asks for as many unused directory numbers as `count` says, from 1 to 4096, on behalf of a name.
-    Grab { dir: u64, name: Name, count: u32 },
+    Grab {
+        dir: u64,
+        name: Name,
+        count: u32,
+    },
     /// Adds each row whose name is absent.
-    Load { dir: u64, rows: RowList },
+    Load {
+        dir: u64,
+        rows: RowList,
+    },
     /// Makes a directory of mode 493 with a number that was given before.
-    Link { dir: u64, name: Name, id: u64 },
+    Link {
+        dir: u64,
+        name: Name,
+        id: u64,
+    },
 }
 
 impl Call {

@@ -10,6 +10,7 @@
 mod attr;
 mod call;
 mod entry;
+mod history;
 mod name;
 mod reply;
 mod row;
@@ -17,6 +18,7 @@ mod row;
 pub use attr::Attr;
 pub use call::Call;
 pub use entry::Entry;
+pub use history::laws_of_histories;
 pub use name::{Name, NameFault};
 pub use reply::{Final, Reply};
 pub use row::{Row, RowList};

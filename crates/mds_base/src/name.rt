@@ -11,7 +11,6 @@ ghost use Rattle.mds_base.specs.Name.{is_name, is_dots, is_name_byte};
 use std::alloc::{AllocError, Global};
 use std::cmp::Ordering;
 use std::marker::Model;
-
 use thiserror::Error;
 
 /// Why bytes were not read as a name.

@@ -1,0 +1,44 @@
+-- Maps that are kept as lists of entries, for any order of keys that is total and tells keys apart.
+use Rattle.std.proofs.Common.{◌≡◌, ◌∙◌, sym, ap, refl, List, [], ◌∷◌, Bool, true, false, cond, Option, Some, None, subst}
+use Rattle.std.specs.declared.cmp.Ordering.{Ordering}
+use Rattle.std.specs.declared.cmp.Ordering.TheVariants.{Less, Equal, Greater}
+use Rattle.std.specs.Ordering.{eq_by_cmp, is_eq}
+use Rattle.std.specs.Cmp.{IsTotalOrder, eq_by_cmp_equiv}
+use Rattle.std.specs.FinMap.{FinMap, IsAntisymmetric, get, insert, remove, from_entries, find, get-from_entries, get-insert, get-remove, same_map}
+use Rattle.std.specs.Map.{lookup}
+use Rattle.std.specs.BTreeMap.{is_at}
+
+-- keys that differ are no ties
+pub apart : {K : Type 0} {R : K → K → Ordering} → IsAntisymmetric R → (q k : K) → (q ≡ k → ⊥) → eq_by_cmp R q k ≡ false
+apart {R = R} exact q k differ =
+    elim (R q k) as (λ r. R q k ≡ r → is_eq r ≡ false) [
+      | Less ↦ λ _. refl
+      | Equal ↦ λ e. absurd (differ (exact q k e))
+      | Greater ↦ λ _. refl
+    ] refl
+
+module _ {K X : Type 0} {R : K → K → Ordering} (total : IsTotalOrder R) (exact : IsAntisymmetric R) where
+  pub insert_apart : (m : FinMap R X) (k : K) (v : X) (q : K) → (q ≡ k → ⊥) → get (insert m k v) q ≡ get m q
+  insert_apart m k v q differ = get-insert total m k v q ∙ ap (λ b. cond b (Some v) (get m q)) (apart exact q k differ)
+
+  pub remove_apart : (m : FinMap R X) (k q : K) → (q ≡ k → ⊥) → get (remove m k) q ≡ get m q
+  remove_apart m k q differ = get-remove total m k q ∙ ap (λ b. cond b None (get m q)) (apart exact q k differ)
+
+  find_key : (es : List (K × X)) (q : K) → find R q es ≡ lookup (is_at (R q)) es
+  find_key [] q = refl
+  find_key (e ∷ es) q = ap (cond (is_at (R q) e.0) (Some e.1)) (find_key es q)
+
+  -- what the map that entries make has at a key is what a search of them finds
+  pub get_entries : (es : List (K × X)) (q : K) → get (from_entries {R = R} es) q ≡ lookup (is_at (R q)) es
+  get_entries es q = get-from_entries total es q ∙ find_key es q
+
+  -- entries that differ at one key make maps that differ there
+  pub one_put : (es fs : List (K × X)) (k : K) (v : X) → ((q : K) → lookup (is_at (R q)) fs ≡ cond (is_at (R k) q) (Some v) (lookup (is_at (R q)) es)) → from_entries {R = R} fs ≡ insert (from_entries es) k v
+  one_put es fs k v h = same_map total exact _ _ (λ q.
+      get_entries fs q ∙ h q ∙ ap (λ b. cond b (Some v) (lookup (is_at (R q)) es)) ((eq_by_cmp_equiv total).symm k q)
+      ∙ sym (get-insert total (from_entries es) k v q ∙ ap (cond (is_at (R q) k) (Some v)) (get_entries es q)))
+
+  pub one_taken : (es fs : List (K × X)) (k : K) → ((q : K) → lookup (is_at (R q)) fs ≡ cond (is_at (R k) q) None (lookup (is_at (R q)) es)) → from_entries {R = R} fs ≡ remove (from_entries es) k
+  one_taken es fs k h = same_map total exact _ _ (λ q.
+      get_entries fs q ∙ h q ∙ ap (λ b. cond b None (lookup (is_at (R q)) es)) ((eq_by_cmp_equiv total).symm k q)
+      ∙ sym (get-remove total (from_entries es) k q ∙ ap (cond (is_at (R q) k) None) (get_entries es q)))

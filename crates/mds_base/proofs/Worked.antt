@@ -1,0 +1,127 @@
+-- The definitions computed on worked sessions, and on sessions that they refuse.
+use Rattle.std.proofs.Common.{◌≡◌, ◌∙◌, sym, ap, subst, refl, ℕ, List, [], ◌∷◌, Option, Some, None, MatchOption, codes, arith, lit≤, Bool, true, false, nat_eq, ◌≤◌}
+use Rattle.std.specs.List.{IsDistinct, AllByRecursion}
+use Rattle.std.specs.FinMap as map
+use Rattle.mds_base.specs.declared.attr.Attr.{Attr}
+use Rattle.mds_base.specs.declared.entry.Entry.{Entry}
+use Rattle.mds_base.specs.declared.call.Call.{Call}
+use Rattle.mds_base.specs.declared.call.Call.TheVariants.{Create, Mkdir, Remove, Lookup, Setattr, Grab}
+use Rattle.mds_base.specs.declared.reply.Final.TheVariants.{Created, CreatedDir, Exists, Removed, Missing, IsDir, Set, Ids}
+use Rattle.mds_base.specs.declared.reply.Reply.{Reply}
+use Rattle.mds_base.specs.declared.reply.Reply.TheVariants.{Said, Found}
+use Rattle.mds_base.specs.Entries.{Place, place_cmp, Entries, new_file, new_directory}
+use Rattle.mds_base.specs.History.{IsLegal, EachAllowed, given}
+use Rattle.mds_base.proofs.Places.{places_total}
+
+abbrev said : ℕ → ℕ → Call → Reply → Entry
+said client seq call reply = record { client = client; seq = seq; call = call; reply = reply }
+
+abbrev a : List ℕ
+a = 97 ∷ []
+
+abbrev nothing : Entries
+nothing = map.empty
+
+nothing_there : (place : Place) → map.get nothing place ≡ None
+nothing_there place = map.get-empty place_cmp place
+
+abbrev is_made : Reply → Type 0
+is_made (Said Created) = Unit {0}
+is_made reply = ⊥
+
+not_made : Said Created ≡ Said Exists → ⊥
+not_made e = let P : Reply → Type 0 = is_made in subst P e tt
+
+differ : true ≡ false → ⊥
+differ e = cc
+
+-- create, create, remove, remove, lookup
+abbrev session : List Entry
+session =
+    said 1 1 (Create 1 a) (Said Created)
+    ∷ said 1 2 (Create 1 a) (Said Exists)
+    ∷ said 1 3 (Remove 1 a) (Said Removed)
+    ∷ said 1 4 (Remove 1 a) (Said Missing)
+    ∷ said 1 5 (Lookup 1 a) (Said Missing)
+    ∷ []
+
+abbrev with_a : Entries
+with_a = map.insert nothing (1, a) new_file
+
+a_there : map.get with_a (1, a) ≡ Some new_file
+a_there = map.get-insert places_total nothing (1, a) new_file (1, a)
+
+a_gone : map.get (map.remove with_a (1, a)) (1, a) ≡ None
+a_gone = map.get-remove places_total with_a (1, a) (1, a)
+
+pub session_legal : IsLegal nothing session
+unfolding IsDistinct
+session_legal = record {
+  allowed = (rw (nothing_there (1, a)) refl, (rw a_there refl, (rw a_there refl, (rw a_gone refl, (rw a_gone refl, tt)))));
+  from_two = tt;
+  once = tt;
+}
+
+-- a second `created` of one name is refused
+pub second_created : IsLegal nothing (said 1 1 (Create 1 a) (Said Created) ∷ said 1 2 (Create 1 a) (Said Created) ∷ []) → ⊥
+second_created legal = let is : Said Created ≡ Said Exists = subst (λ o. MatchOption o (Said Created ≡ Said Created) (λ _. Said Created ≡ Said Exists)) a_there legal.allowed.1.0 in not_made is
+
+-- the number 2 given twice, and the number 1 given at all, are refused
+pub given_twice : IsLegal nothing (said 1 1 (Mkdir 1 a) (Said (CreatedDir 2)) ∷ said 1 2 (Grab 1 a 3) (Said (Ids 1)) ∷ []) → ⊥
+unfolding IsDistinct
+given_twice legal = differ legal.once.0.1.0
+
+pub given_root : IsLegal nothing (said 1 1 (Mkdir 1 a) (Said (CreatedDir 1)) ∷ []) → ⊥
+given_root legal = omega (arith, legal.from_two.0)
+
+-- mkdir, create, setattr, and what another client finds
+abbrev home : List ℕ
+home = codes "home"
+
+abbrev notes : List ℕ
+notes = codes "notes.txt"
+
+abbrev set_notes : Attr
+set_notes = record { dir = 0; mode = 384; size = 1200 }
+
+abbrev shared : List Entry
+shared =
+    said 1 1 (Mkdir 1 home) (Said (CreatedDir 2))
+    ∷ said 1 2 (Create 2 notes) (Said Created)
+    ∷ said 1 3 (Setattr 2 notes 384 1200) (Said Set)
+    ∷ said 2 1 (Lookup 1 home) (Found (new_directory 2) 0)
+    ∷ said 2 2 (Lookup 2 notes) (Found set_notes 0)
+    ∷ []
+
+abbrev with_home : Entries
+with_home = map.insert nothing (1, home) (new_directory 2)
+
+abbrev with_notes : Entries
+with_notes = map.insert with_home (2, notes) new_file
+
+no_notes : map.get with_home (2, notes) ≡ None
+no_notes = map.get-insert places_total nothing (1, home) (new_directory 2) (2, notes) ∙ nothing_there (2, notes)
+
+notes_there : map.get with_notes (2, notes) ≡ Some new_file
+notes_there = map.get-insert places_total with_home (2, notes) new_file (2, notes)
+
+abbrev with_set : Entries
+with_set = map.insert with_notes (2, notes) set_notes
+
+home_there : map.get with_set (1, home) ≡ Some (new_directory 2)
+home_there = map.get-insert places_total with_notes (2, notes) set_notes (1, home) ∙ map.get-insert places_total with_home (2, notes) new_file (1, home) ∙ map.get-insert places_total nothing (1, home) (new_directory 2) (1, home)
+
+set_there : map.get with_set (2, notes) ≡ Some set_notes
+set_there = map.get-insert places_total with_notes (2, notes) set_notes (2, notes)
+
+-- the lookups stand on the map that the set left
+looked : EachAllowed with_set (said 2 1 (Lookup 1 home) (Found (new_directory 2) 0) ∷ said 2 2 (Lookup 2 notes) (Found set_notes 0) ∷ [])
+looked = (rw home_there (0, refl), (rw set_there (0, refl), tt))
+
+pub shared_legal : IsLegal nothing shared
+unfolding IsDistinct
+shared_legal = record {
+  allowed = (rw (nothing_there (1, home)) (2, refl), (rw no_notes refl, (rw notes_there refl, rw notes_there looked)));
+  from_two = (lit≤ tt, tt);
+  once = (tt, tt);
+}

@@ -1,0 +1,47 @@
+-- The plain directory: a finite map from a directory and a name to the entry's attributes.
+use Rattle.std.specs.Prelude.{◌≡◌, ℕ, ◌==◌, Bool, List, cond, refl, Option, Some, None}
+use Rattle.std.specs.declared.cmp.Ordering.{Ordering}
+use Rattle.std.specs.Ordering.{nat_cmp, ordering_then}
+use Rattle.std.specs.Cmp.Lexicographic.{slice_cmp}
+use Rattle.std.specs.Coded.{Coded, code_by, coded×, coded_list, coded_ℕ}
+use Rattle.std.specs.FinMap as map
+use Rattle.mds_base.specs.declared.attr.Attr.{Attr}
+
+-- where an entry stands: the number of its directory, and its name
+abbrev pub Place : Type 0
+Place = ℕ × List ℕ
+
+-- by directory, and then by the bytes of the name
+abbrev pub place_cmp : Place → Place → Ordering
+place_cmp a b = ordering_then (nat_cmp a.0 b.0) (slice_cmp nat_cmp a.1 b.1)
+
+abbrev pub Entries : Type 0
+Entries = map.FinMap place_cmp Attr
+
+-- an entry whose directory number is 0 is a file
+abbrev pub is_file : Attr → Bool
+is_file attr = attr.dir == 0
+
+abbrev pub new_file : Attr
+new_file = record { dir = 0; mode = 420; size = 0 }
+
+abbrev pub new_directory : ℕ → Attr
+new_directory number = record { dir = number; mode = 493; size = 0 }
+
+-- what becomes of one entry: it stays as it is, it gets attributes, or it goes
+pub data Edit : Type 0 where
+  Keep : Edit
+  Put : Attr → Edit
+  Drop : Edit
+
+abbrev pub edited : Entries → Place → Edit → Entries
+edited entries place Keep = entries
+edited entries place (Put attr) = map.insert entries place attr
+edited entries place Drop = map.remove entries place
+
+-- the codes by which a map of entries can be a model's value
+abbrev pub coded_place : Coded Place
+coded_place = coded× coded_ℕ (coded_list coded_ℕ)
+
+abbrev pub coded_attr : Coded Attr
+coded_attr = code_by (ℕ × (ℕ × ℕ)) (coded× coded_ℕ (coded× coded_ℕ coded_ℕ)) (λ a. (a.dir, (a.mode, a.size))) (λ p. record { dir = p.0; mode = p.1.0; size = p.1.1 }) (λ _. refl)
