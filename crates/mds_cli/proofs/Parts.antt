@@ -38,10 +38,6 @@ pub lacks-append : (stop : ℕ) (a b : List ℕ) → Lacks stop a → Lacks stop
 lacks-append stop [] b in_a in_b = in_b
 lacks-append stop (c ∷ a) b in_a in_b = and_from _ _ (and_parts _ _ in_a).0 (lacks-append stop a b (and_parts _ _ in_a).1 in_b)
 
--- a rest that is taken whole
-pub rest_whole : (bytes : List ℕ) (at : ℕ) → take (length bytes - at) (drop at bytes) ≡ drop at bytes
-rest_whole bytes at = take_all (length bytes - at) (drop at bytes) (omega (arith, length-drop at bytes))
-
 -- what a search for a byte finds, and what it splits bytes into
 pub none_found : (stop : ℕ) (bytes : List ℕ) → Nowhere (Passes (is_byte stop) bytes) 0 (length bytes) → Lacks stop bytes
 none_found stop bytes none = subst (Lacks stop) (take_all (length bytes) bytes (omega arith)) (lacks_before stop bytes (length bytes) (λ k below is. none k (omega arith) below is))

@@ -102,7 +102,7 @@ short_front Remove = lit≤ tt
 short_front Lookup = lit≤ tt
 
 short_name : (name : List ℕ) → IsTrue (is_name name) → length (32 ∷ name) ≤ 256
-short_name name named = let fits : nat_le (length name) 255 ≡ true = (and_parts _ _ (and_parts _ _ (and_parts _ _ named).0).0).1 in omega (arith, leb-true (length name) 255 fits)
+short_name name named = let fits : nat_le (length name) 255 ≡ true = (and_parts (nat_le 1 (length name)) (nat_le (length name) 255) (and_parts _ _ (and_parts _ _ named).0).0).1 in omega (arith, leb-true (length name) 255 fits)
 
 -- a line that spells a call is short
 pub spelled_short : (line : List ℕ) → IsSpelled line → length line ≤ 2 ^ 20

@@ -2,4 +2,6 @@
 #![tactic(auto)]
 
 mod grammar;
+mod line;
+mod reader;
 mod text;
