@@ -1,8 +1,7 @@
 -- The laws of plain rules and legal histories.
-use Rattle.std.proofs.Common.{◌≡◌, ◌∙◌, sym, ap, subst, refl, ℕ, ◌≤◌, List, [], ◌∷◌, ◌++◌, append_assoc, Bool, true, false, cond, nat_eq, Option, Some, None, is_some, is_some}
+use Rattle.std.proofs.Common.{◌≡◌, ◌∙◌, sym, ap, subst, refl, ℕ, ◌≤◌, List, [], ◌∷◌, ◌++◌, append_assoc, Bool, true, false, cond, nat_eq, is_some, is_some}
 use Rattle.std.specs.List.{AllByRecursion, IsDistinct}
 use Rattle.std.specs.FinMap as map
-use Rattle.mds_base.specs.declared.attr.Attr.{Attr}
 use Rattle.mds_base.specs.declared.row.Row.{Row}
 use Rattle.mds_base.specs.declared.entry.Entry.{Entry}
 use Rattle.mds_base.specs.declared.call.Call.{Call}
@@ -11,7 +10,7 @@ use Rattle.mds_base.specs.declared.reply.Final.TheVariants.{Created, CreatedDir,
 use Rattle.mds_base.specs.declared.reply.Reply.{Reply}
 use Rattle.mds_base.specs.declared.reply.Reply.TheVariants.{Said, Found, Listed}
 use Rattle.mds_base.specs.Entries.{Place, Entries}
-use Rattle.mds_base.specs.PlainRules.{PlainStep, Allows, after, with_rows, places_in, places_of, given_by}
+use Rattle.mds_base.specs.PlainRules.{after, with_rows, places_in, places_of, given_by}
 use Rattle.mds_base.specs.History.{IsLegal, IsLookup, Spares, EachAllowed, given, map_after}
 use Rattle.mds_base.proofs.Maps.{insert_apart}
 use Rattle.mds_base.proofs.Places.{edited_apart, places_total, exact_places}

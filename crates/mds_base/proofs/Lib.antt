@@ -2,3 +2,4 @@ pub mod Maps
 pub mod Places
 pub mod Histories
 pub mod Worked
+pub mod RowMaps

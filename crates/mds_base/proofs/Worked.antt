@@ -1,16 +1,16 @@
 -- The definitions computed on worked sessions, and on sessions that they refuse.
-use Rattle.std.proofs.Common.{◌≡◌, ◌∙◌, sym, ap, subst, refl, ℕ, List, [], ◌∷◌, Option, Some, None, MatchOption, codes, arith, lit≤, Bool, true, false, nat_eq, ◌≤◌}
-use Rattle.std.specs.List.{IsDistinct, AllByRecursion}
+use Rattle.std.proofs.Common.{◌≡◌, ◌∙◌, subst, refl, ℕ, List, [], ◌∷◌, Some, None, MatchOption, codes, arith, lit≤, true, false}
+use Rattle.std.specs.List.{IsDistinct}
 use Rattle.std.specs.FinMap as map
 use Rattle.mds_base.specs.declared.attr.Attr.{Attr}
 use Rattle.mds_base.specs.declared.entry.Entry.{Entry}
 use Rattle.mds_base.specs.declared.call.Call.{Call}
 use Rattle.mds_base.specs.declared.call.Call.TheVariants.{Create, Mkdir, Remove, Lookup, Setattr, Grab}
-use Rattle.mds_base.specs.declared.reply.Final.TheVariants.{Created, CreatedDir, Exists, Removed, Missing, IsDir, Set, Ids}
+use Rattle.mds_base.specs.declared.reply.Final.TheVariants.{Created, CreatedDir, Exists, Removed, Missing, Set, Ids}
 use Rattle.mds_base.specs.declared.reply.Reply.{Reply}
 use Rattle.mds_base.specs.declared.reply.Reply.TheVariants.{Said, Found}
 use Rattle.mds_base.specs.Entries.{Place, place_cmp, Entries, new_file, new_directory}
-use Rattle.mds_base.specs.History.{IsLegal, EachAllowed, given}
+use Rattle.mds_base.specs.History.{IsLegal, EachAllowed}
 use Rattle.mds_base.proofs.Places.{places_total}
 
 abbrev said : ℕ → ℕ → Call → Reply → Entry

@@ -2,7 +2,6 @@
 use Rattle.std.specs.Prelude.{◌≡◌, ℕ, ◌≤◌, List, [], ◌∷◌, ◌++◌, nat_eq}
 use Rattle.std.specs.List.{AllByRecursion, IsDistinct}
 use Rattle.mds_base.specs.declared.entry.Entry.{Entry}
-use Rattle.mds_base.specs.declared.call.Call.{Call}
 use Rattle.mds_base.specs.declared.call.Call.TheVariants.{Lookup}
 use Rattle.mds_base.specs.Entries.{Place, Entries}
 use Rattle.mds_base.specs.PlainRules.{Allows, after, places_of, given_by}

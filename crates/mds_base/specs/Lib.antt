@@ -2,3 +2,5 @@ pub mod Name
 pub mod Entries
 pub mod PlainRules
 pub mod History
+pub mod RowKeys
+pub mod RowsCause

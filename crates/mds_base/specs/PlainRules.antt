@@ -1,17 +1,16 @@
 -- The plain rules: the replies that a call may get on a map of entries, and the map that a reply leaves.
 -- They know no partitions, sessions or logs. Open in them are the numbers that mkdir and grab give, the end of a
 -- lease, and whether a load is answered `stale`.
-use Rattle.std.specs.Prelude.{◌≡◌, ℕ, ◌+◌, List, [], ◌∷◌, Option, Some, None, MatchOption, is_some, if◌then◌else◌, ◌⊎◌}
+use Rattle.std.specs.Prelude.{◌≡◌, ℕ, ◌+◌, List, [], ◌∷◌, Option, Some, MatchOption, is_some, if◌then◌else◌, ◌⊎◌}
 use Rattle.std.specs.List.{range_with_len}
 use Rattle.std.specs.FinMap as map
 use Rattle.mds_base.specs.declared.attr.Attr.{Attr}
 use Rattle.mds_base.specs.declared.row.Row.{Row}
 use Rattle.mds_base.specs.declared.call.Call.{Call}
 use Rattle.mds_base.specs.declared.call.Call.TheVariants.{Create, Mkdir, Remove, Lookup, Setattr, Scan, Grab, Load, Link}
-use Rattle.mds_base.specs.declared.reply.Final.{Final}
 use Rattle.mds_base.specs.declared.reply.Final.TheVariants.{Created, CreatedDir, Exists, Removed, Missing, IsDir, Set, Ids, Loaded, Stale}
 use Rattle.mds_base.specs.declared.reply.Reply.{Reply}
-use Rattle.mds_base.specs.declared.reply.Reply.TheVariants.{Said, Found, Listed}
+use Rattle.mds_base.specs.declared.reply.Reply.TheVariants.{Said, Found}
 use Rattle.mds_base.specs.Entries.{Place, Entries, Edit, Keep, Put, Drop, edited, is_file, new_file, new_directory}
 
 -- how many of a load's rows are absent, each row after the ones before it were added

@@ -1,4 +1,4 @@
-ghost use Rattle.std.specs.Prelude.{◌≡◌, ◌↔◌, IsTrue, IfOk, OnOk, IsErrOf, false};
+ghost use Rattle.std.specs.Prelude.{◌≡◌, ◌↔◌, [], ◌∷◌, IsTrue, IfOk, OnOk, IsErrOf, false};
 ghost use Rattle.std.specs.Prelude.{nat_eq};
 ghost use Rattle.std.specs.List.{list_all};
 ghost use Rattle.std.specs.Cmp.{partial_order_from_own_ties};
@@ -73,6 +73,14 @@ impl Name {
         ensures is_name { IsTrue (is_name self.now) }
     {
         self.bytes.as_slice()
+    }
+
+    /// The least of all names in the order of names, the single byte 1.
+    pub(crate) fn least(alloc: Global) -> Result<Name, AllocError>
+        ensures { IfOk result (λ name. name ≡ 1 ∷ []) }
+    {
+        let bytes = Vec::from_slice(alloc, &[1])?;
+        Ok(Name { bytes })
     }
 
     /// A copy of the name; it is refused only where there is no memory for it.
