@@ -41,8 +41,9 @@ module _ (chunk : List ℕ) (from to n : ℕ) (held line : List ℕ) (le : from 
   seen : take n (take (to - from) (drop from chunk)) ≡ take n held
   seen = ap (take n) (held_is chunk from to le ∙ is)
 
-  pub passes_limit : 2 ^ 20 < length line + n → n ≤ to - from → PassesLimit held line
+  pub passes_limit : 2 ^ 20 < length line + n → n ≤ to - from → PassesLimit held held line
   passes_limit long count = record {
+    same = refl;
     part = take n held;
     rest = drop n held;
     is_part = subst IsPart seen is_part;

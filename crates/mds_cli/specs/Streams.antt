@@ -1,6 +1,6 @@
 -- Both streams of a run at one moment, and what reading a line does to them.
 use Rattle.std.specs.Prelude.{◌≡◌, ℕ, ◌+◌, ◌<◌, ◌≤◌, ◌^◌, List, [], ◌∷◌, ◌++◌, Option, length, take, drop}
-use Rattle.std.specs.Io.KnownBytes.{Appends, Consumes}
+use Rattle.std.specs.Io.KnownBytes.{Appends, Consumes, prepend_known}
 use Rattle.mds_out.specs.Fault.{Rose}
 use Rattle.mds_out.specs.Known.{OnTold, OnKnown}
 use Rattle.mds_out.specs.Stream.{TakesFront}
@@ -26,7 +26,8 @@ pub record GoesOn (held left line longer : List ℕ) : Type 0 where
   pub grows : longer ≡ line ++ held
   pub short : length longer ≤ 2 ^ 20
 
-pub record PassesLimit (held line : List ℕ) : Type 0 where
+pub record PassesLimit (held left line : List ℕ) : Type 0 where
+  pub same : left ≡ held
   pub part : List ℕ
   pub rest : List ℕ
   pub is_part : IsPart part
@@ -36,7 +37,7 @@ pub record PassesLimit (held line : List ℕ) : Type 0 where
 abbrev pub TakesPart : Part → List ℕ → List ℕ → List ℕ → List ℕ → Type 0
 TakesPart Ended held left line longer = EndsLine held left line longer
 TakesPart Open held left line longer = GoesOn held left line longer
-TakesPart TooLong held left line longer = PassesLimit held line
+TakesPart TooLong held left line longer = PassesLimit held left line
 
 -- Text on its way to the sink: a front of it was taken, and the rest is pending.
 pub record Flows (before now : Option (List ℕ)) (pending text : List ℕ) : Type 0 where
@@ -57,6 +58,10 @@ pub record Streams : Type 0 where
   pub pending : List ℕ
   pub reads : ℕ
   pub writes : ℕ
+
+-- the streams where a reader holds these bytes
+abbrev pub streams : List ℕ → Option (List ℕ) → Option (List ℕ) → List ℕ → ℕ → ℕ → Streams
+streams held left taken pending reads writes = record { unread = prepend_known held left; taken = taken; pending = pending; reads = reads; writes = writes }
 
 -- Neither stream failed; what was pending was taken or still waits.
 pub record IsQuiet (before now : Streams) : Type 0 where
