@@ -4,4 +4,8 @@
 mod grammar;
 mod line;
 mod reader;
+mod session;
+mod status;
 mod text;
+
+pub use status::{Status, code};
