@@ -5,3 +5,4 @@ pub mod Reading
 pub mod Scripts
 pub mod Carrying
 pub mod Turning
+pub mod Ending

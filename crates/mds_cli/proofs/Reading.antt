@@ -147,7 +147,7 @@ module _ (before : Streams) (held : List ℕ) (left taken : Option (List ℕ)) (
         stops_reading rose = record {
           reads = subst (λ n. Rose n reads_now) reading.quiet.reads rose;
           writes = same_writes ∙ reading.quiet.writes;
-          flows = subst (λ p. Flows before.taken taken_now p before.pending) none flushed;
+          flows = flushed;
           part = longer;
           is_part = longer_part;
           consumed = refilled before.unread left left_now longer held_now all_read read;

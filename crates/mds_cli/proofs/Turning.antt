@@ -9,7 +9,7 @@ use Rattle.mds_cli.specs.Lines.{IsPart, lines_of}
 use Rattle.mds_cli.specs.Grammar.{IsSpelled}
 use Rattle.mds_cli.specs.Text.{answer_line, effect_line}
 use Rattle.mds_cli.specs.Streams.{Streams, streams, Flows, IsQuiet, Ends, ReadsEnded, ReadsLast, ReadsNone, BeginsLong, StopsLong, StopsLine}
-use Rattle.mds_cli.specs.Turn.{streams_of, CarriesCall, StopsCall, CarriesLine, CarriesLast, StopsBad, StopsTurn, BeginsUnspelled, status_of}
+use Rattle.mds_cli.specs.Turn.{streams_of, CarriesCall, StopsCall, CarriesLine, CarriesLast, StopsBad, StopsTurn, BeginsUnspelled, BeginsSpelled, status_of}
 use Rattle.mds_cli.specs.declared.line.Stop.{Stop}
 use Rattle.mds_cli.specs.declared.line.Stop.TheVariants as stops
 use Rattle.mds_cli.specs.declared.session.Session.{Session}
@@ -57,8 +57,13 @@ unspelled : (unread : Option (List ℕ)) (line : List ℕ) → OnTold unread (Be
 unspelled None line begins bad = tt
 unspelled (Some all) line begins bad = record { line = line; rest = begins.0; is = begins.1; is_bad = bad }
 
+spelled : (unread : Option (List ℕ)) (line : List ℕ) → OnTold unread (BeginsWith line) → IsSpelled line → OnTold unread BeginsSpelled
+spelled None line begins is = tt
+spelled (Some all) line begins is = record { line = line; rest = begins.0; is = begins.1; is_spelled = is }
+
 pub stops_call : (status : Status) (line : List ℕ) (number : ℕ) (before now : Streams) → StopsCall status line number → IsQuiet before now → OnTold before.unread (BeginsWith line) → StopsTurn status before now number
 stops_call (BadScript place) line number before now stops quiet begins = record { place = stops.0; quiet = quiet; begins = unspelled before.unread line begins stops.1 }
+stops_call (Limit which) line number before now stops quiet begins = record { lines = stops.0; past = stops.1; quiet = quiet; begins = spelled before.unread line begins stops.2 }
 stops_call OutOfMemory line number before now stops quiet begins = quiet
 stops_call status line number before now stops quiet begins = absurd stops
 
@@ -92,6 +97,7 @@ module _ (before mid now : Streams) (number : ℕ) (old read new : Session) (lin
       entry = carries.entry;
       is_part = is_part;
       is_entry = carries.is_entry;
+      within = carries.within;
       step = subst (λ d. PlainStep d carries.entry.call carries.entry.reply new.directory) same_directory carries.step;
       consumed = consumed;
       flows = subst (λ t. Flows before.taken t now.pending (before.pending ++ answer_line carries.entry)) (sym taken)

@@ -106,11 +106,11 @@ pub record StopsLong (before now : Streams) : Type 0 where
   pub quiet : IsQuiet before now
   pub begins : OnTold before.unread BeginsLong
 
--- The source failed, in the midst of a line; all that was pending was taken before.
+-- The source failed, in the midst of a line.
 pub record StopsReading (before now : Streams) : Type 0 where
   pub reads : Rose before.reads now.reads
   pub writes : now.writes ≡ before.writes
-  pub flows : Flows before.taken now.taken [] before.pending
+  pub flows : Flows before.taken now.taken now.pending before.pending
   pub part : List ℕ
   pub is_part : IsPart part
   pub consumed : Consumes before.unread now.unread part

@@ -1,9 +1,11 @@
 -- What one turn of a run does: it reads a line, carries out its call and makes the text of its answer.
-use Rattle.std.specs.Prelude.{◌≡◌, ℕ, ◌≤◌, List, [], ◌∷◌, ◌++◌, Option, length, string_bytes}
+use Rattle.std.specs.Prelude.{◌≡◌, ℕ, ◌<◌, ◌≤◌, ◌^◌, List, [], ◌∷◌, ◌++◌, Option, length, string_bytes}
 use Rattle.std.specs.Io.KnownBytes.{Consumes}
 use Rattle.mds_base.specs.Entries.{Entries}
 use Rattle.mds_base.specs.PlainRules.{PlainStep}
 use Rattle.mds_base.specs.declared.entry.Entry.{Entry}
+use Rattle.mds_base.specs.declared.setup.Which.{Which}
+use Rattle.mds_base.specs.declared.setup.Which.TheVariants.{Lines}
 use Rattle.mds_out.specs.Known.{OnTold}
 use Rattle.mds_cli.specs.Lines.{IsPart, lines_of}
 use Rattle.mds_cli.specs.Grammar.{IsEntryOf, IsSpelled}
@@ -25,6 +27,7 @@ streams_of session left taken reads writes = streams session.reader left taken s
 pub record CarriesCall (line : List ℕ) (number : ℕ) (old new : Session) : Type 0 where
   pub entry : Entry
   pub is_entry : IsEntryOf line number entry
+  pub within : number ≤ 2 ^ 22
   pub step : PlainStep old.directory entry.call entry.reply new.directory
   pub pending : new.pending.items ≡ old.pending.items ++ answer_line entry
   pub effects : string_bytes new.effects ≡ string_bytes old.effects ++ effect_line entry
@@ -33,6 +36,7 @@ pub record CarriesCall (line : List ℕ) (number : ℕ) (old new : Session) : Ty
 -- Why a line's call was not carried out.
 abbrev pub StopsCall : Status → List ℕ → ℕ → Type 0
 StopsCall (BadScript place) line number = (place ≡ number) × (IsSpelled line → ⊥)
+StopsCall (Limit which) line number = (which ≡ Lines) × (2 ^ 22 < number) × IsSpelled line
 StopsCall OutOfMemory line number = Unit {0}
 StopsCall status line number = ⊥
 
@@ -42,6 +46,7 @@ pub record CarriesLine (before now : Streams) (number : ℕ) (old new : Session)
   pub entry : Entry
   pub is_part : IsPart line
   pub is_entry : IsEntryOf line number entry
+  pub within : number ≤ 2 ^ 22
   pub step : PlainStep old.directory entry.call entry.reply new.directory
   pub consumed : Consumes before.unread now.unread (line ++ behind)
   pub flows : Flows before.taken now.taken now.pending (before.pending ++ answer_line entry)
@@ -80,10 +85,25 @@ pub record StopsBad (named number : ℕ) (before now : Streams) : Type 0 where
   pub quiet : IsQuiet before now
   pub begins : OnTold before.unread BeginsUnspelled
 
+-- The first line of the bytes spells a call.
+pub record BeginsSpelled (bytes : List ℕ) : Type 0 where
+  pub line : List ℕ
+  pub rest : List (List ℕ)
+  pub is : lines_of bytes ≡ line ∷ rest
+  pub is_spelled : IsSpelled line
+
+-- It would be one line more than a script may have.
+pub record StopsFull (which : Which) (number : ℕ) (before now : Streams) : Type 0 where
+  pub lines : which ≡ Lines
+  pub past : 2 ^ 22 < number
+  pub quiet : IsQuiet before now
+  pub begins : OnTold before.unread BeginsSpelled
+
 abbrev pub StopsTurn : Status → Streams → Streams → ℕ → Type 0
 StopsTurn (BadScript place) before now number = StopsBad place number before now
 StopsTurn ReadFault before now number = StopsReading before now
 StopsTurn WriteFault before now number = StopsWriting before now
+StopsTurn (Limit which) before now number = StopsFull which number before now
 StopsTurn OutOfMemory before now number = IsQuiet before now
 StopsTurn status before now number = ⊥
 

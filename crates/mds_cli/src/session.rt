@@ -1,6 +1,7 @@
 //! A run line by line: each call is carried out on a plain directory, and its texts are made.
 ghost use Rattle.std.specs.Prelude.{◌≡◌, [], ◌++◌, IfOk, IfErr, OnOk, OnErr, string_bytes};
 ghost use Rattle.std.specs.FinMap as map;
+ghost use Rattle.mds_cli.specs.Run.{CarriesAll, StopsCarrying};
 ghost use Rattle.mds_cli.specs.Text.{answer_line, effect_line};
 ghost use Rattle.mds_cli.specs.Turn.{streams_of, CarriesCall, StopsCall, TakesTurn, StopsTurn, status_of};
 
@@ -9,11 +10,14 @@ use crate::line::{Line, Stop, next_line};
 use crate::reader::Reader;
 use crate::status::Status;
 use crate::text::{AnswerLine, EffectLine};
-use mds_base::Entry;
+use mds_base::{Entry, Which};
 use mds_out::{Sink, Source};
 use plain_dir::PlainDir;
 use std::alloc::{AllocError, Global};
 use std::fmt::Write;
+
+/// The most lines that a script may have.
+const LINE_COUNT: u64 = 1 << 22;
 
 /// A run at one moment.
 #[derive(Drop)]
@@ -50,8 +54,38 @@ impl Session {
         })
     }
 
-    /// Reads the next line and carries out its call, as call `number` of client 1.
-    pub(crate) fn turn<S: Source, K: Sink>(
+    /// Carries out all lines, as client 1's calls numbered from 1.
+    pub(crate) fn carry<S: Source, K: Sink>(
+        &mut self,
+        alloc: Global,
+        input: &mut S,
+        output: &mut K,
+    ) -> Result<(), Status>
+        requires pending { self.old.pending.items ≡ [] }
+        requires effects { string_bytes self.old.effects ≡ [] }
+        requires directory { self.old.directory ≡ map.empty }
+        ensures ok { OnOk result (CarriesAll
+            (streams_of self.old (S.left input.old) (K.taken output.old) (S.faults input.old) (K.faults output.old))
+            (streams_of self.new (S.left input.new) (K.taken output.new) (S.faults input.new) (K.faults output.new))
+            (string_bytes self.new.effects)) }
+        ensures err { IfErr result (λ status. StopsCarrying status
+            (streams_of self.old (S.left input.old) (K.taken output.old) (S.faults input.old) (K.faults output.old))
+            (streams_of self.new (S.left input.new) (K.taken output.new) (S.faults input.new) (K.faults output.new))) }
+    {
+        let mut number = 0;
+        'lines: loop {
+            number += 1;
+            match self.turn(alloc, number, input, output)? {
+                Line::Ended => {}
+                Line::Last => return Ok(()),
+                Line::None => return Ok(()),
+            }
+        }
+    }
+
+    /// Reads the next line and carries out its call, as call `number` of client 1. A line past the last one that a
+    /// script may have is refused, as one outside the grammar or by the limit.
+    fn turn<S: Source, K: Sink>(
         &mut self,
         alloc: Global,
         number: u64,
@@ -100,6 +134,11 @@ impl Session {
         let Some(call) = call_of(alloc, &self.line)? else {
             return Err(Status::BadScript { line: number });
         };
+        if number > LINE_COUNT {
+            return Err(Status::Limit {
+                which: Which::Lines,
+            });
+        }
         let reply = self.directory.apply(alloc, &call, 0)?;
         let entry = Entry {
             client: 1,
