@@ -105,6 +105,7 @@ module _ (first mid now : Streams) (directory : Entries) (effects : List ℕ) (c
       legal = legal carried.entries directory carried.leads;
       text = way first mid now directory effects count carried turn.flows;
     };
+    none = turn.none;
     reads = subst (λ n. Rose n now.reads) carried.reads turn.reads;
     writes = turn.writes ∙ carried.writes;
   }

@@ -6,3 +6,4 @@ pub mod Scripts
 pub mod Carrying
 pub mod Turning
 pub mod Ending
+pub mod Running

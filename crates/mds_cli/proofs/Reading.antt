@@ -143,8 +143,9 @@ module _ (before : Streams) (held : List ℕ) (left taken : Option (List ℕ)) (
             let on = reads_on same_reads in
             record { quiet = on.quiet; consumed = subst (λ l. Consumes before.unread (prepend_known held_now left_now) l) empty on.consumed; ends = ends_there nothing ends }
 
-        pub stops_reading : Rose reads reads_now → StopsReading before (streams held_now left_now taken_now pending_now reads_now writes_now)
-        stops_reading rose = record {
+        pub stops_reading : Rose reads reads_now → held_now ≡ [] → StopsReading before (streams held_now left_now taken_now pending_now reads_now writes_now)
+        stops_reading rose nothing = record {
+          none = nothing;
           reads = subst (λ n. Rose n reads_now) reading.quiet.reads rose;
           writes = same_writes ∙ reading.quiet.writes;
           flows = flushed;

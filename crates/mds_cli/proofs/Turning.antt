@@ -1,9 +1,11 @@
 -- One turn of a run: a line is read, and its call carried out.
 use Rattle.std.proofs.Common.{◌≡◌, ◌∙◌, sym, ap, subst, refl, ℕ, ◌+◌, ◌-◌, ◌<◌, ◌≤◌, ◌^◌, List, [], ◌∷◌, ◌++◌, length, take, drop, arith, Option, Some, None, Result, Ok, Err, IfErr, append_assoc, length-append}
 use Rattle.std.specs.Prelude.{IsErrAnd, string_bytes}
-use Rattle.std.specs.Io.KnownBytes.{Consumes, Appends, prepend_known}
+use Rattle.std.specs.Io.KnownBytes.{Consumes, Appends, Keeps, prepend_known}
 use Rattle.std.proofs.lemmas.List.{append-nil, take-append-le, drop-append-le}
 use Rattle.mds_base.specs.PlainRules.{PlainStep}
+use Rattle.std.proofs.Math.Seq.{take-append-add, take-length}
+use Rattle.mds_out.specs.Stream.{TakesFront}
 use Rattle.mds_out.specs.Known.{OnTold}
 use Rattle.mds_cli.specs.Lines.{IsPart, lines_of}
 use Rattle.mds_cli.specs.Grammar.{IsSpelled}
@@ -111,3 +113,30 @@ module _ (before mid now : Streams) (number : ℕ) (old read new : Session) (lin
   pub carries_last : (quiet : IsQuiet before mid) (is_part : IsPart line) (consumed : Consumes before.unread now.unread (line ++ [])) → 1 ≤ length line → Ends before.unread now.unread → CarriesLast before now number old new
   unfolding carries_line
   carries_last quiet is_part consumed some ends = record { carries = carries_line [] quiet is_part consumed; some = some; ends = ends }
+
+-- Texts that are written one behind the other
+
+pub appends_both : (a b c : Option (List ℕ)) (text more : List ℕ) → Appends a b text → Appends b c more → Appends a c (text ++ more)
+appends_both None b c text more one two = tt
+appends_both (Some a) None c text more one two = absurd one
+appends_both (Some a) (Some b) None text more one two = absurd two
+appends_both (Some a) (Some b) (Some c) text more one two = two ∙ ap (λ l. l ++ more) one ∙ append_assoc a text more
+
+pub front_then : (a b c : Option (List ℕ)) (text more : List ℕ) → Appends a b text → TakesFront b c more → TakesFront a c (text ++ more)
+front_then a b c text more appends front = record {
+  count = length text + front.count;
+  within = omega (arith, front.within, length-append text more);
+  taken = subst (λ l. Appends a c l) (sym (take-append-add text more front.count)) (appends_both a b c text (take front.count more) appends front.taken);
+}
+
+pub appends_kept : (a b c : Option (List ℕ)) (text : List ℕ) → Appends a b text → Keeps b c → Appends a c text
+appends_kept None b c text one keeps = tt
+appends_kept (Some a) None c text one keeps = absurd one
+appends_kept (Some a) (Some b) None text one keeps = absurd keeps
+appends_kept (Some a) (Some b) (Some c) text one keeps = keeps ∙ one
+
+pub front_all : (a b c : Option (List ℕ)) (text : List ℕ) → Appends a b text → Keeps b c → TakesFront a c text
+front_all a b c text appends keeps = record { count = length text; within = omega arith; taken = subst (λ l. Appends a c l) (sym (take-length text)) (appends_kept a b c text appends keeps) }
+
+pub front_longer : (a b : Option (List ℕ)) (text more : List ℕ) → TakesFront a b text → TakesFront a b (text ++ more)
+front_longer a b text more front = record { count = front.count; within = omega (arith, front.within, length-append text more); taken = subst (λ l. Appends a b l) (sym (take-append-le front.count text more front.within)) front.taken }

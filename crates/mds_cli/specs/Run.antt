@@ -103,6 +103,7 @@ pub record StopsQuietly (Reason : Type 0) (first now : Streams) : Type 0 where
 
 pub record StopsByRead (Reason : Type 0) (first now : Streams) : Type 0 where
   pub reason : Reason
+  pub none : now.held ≡ []
   pub reads : Rose first.reads now.reads
   pub writes : now.writes ≡ first.writes
 
@@ -122,3 +123,17 @@ StopsCarrying WriteFault first now = StopsByWrite (SomeLines first.unread (TookF
 StopsCarrying (Limit which) first now = StopsAtLimit which (OnItsWay first now) first now
 StopsCarrying OutOfMemory first now = StopsQuietly (SomeLines first.unread (OnItsWay first now)) first now
 StopsCarrying status first now = ⊥
+
+-- both streams of a run, as they are outside of it
+abbrev pub outside : Option (List ℕ) → Option (List ℕ) → ℕ → ℕ → Streams
+outside left taken reads writes = record { held = []; unread = left; taken = taken; pending = []; reads = reads; writes = writes }
+
+-- How a run of the program ended.
+abbrev pub EndsRun : Status → Streams → Streams → Type 0
+EndsRun Done first now = StopsQuietly (WholeRun first.unread now.unread (λ entries. Appends first.taken now.taken (text_of entries))) first now
+EndsRun Usage first now = ⊥
+EndsRun (BadScript line) first now = StopsQuietly (FirstBad line first.unread (Took first now)) first now
+EndsRun ReadFault first now = StopsByRead (ReadsFront first.unread now.unread (Took first now)) first now
+EndsRun WriteFault first now = StopsByWrite (SomeLines first.unread (λ entries. TakesFront first.taken now.taken (text_of entries))) first now
+EndsRun (Limit which) first now = StopsAtLimit which (Took first now) first now
+EndsRun OutOfMemory first now = StopsQuietly (SomeLines first.unread (TookFront first now)) first now

@@ -50,9 +50,10 @@ pub record Flows (before now : Option (List ℕ)) (pending text : List ℕ) : Ty
 abbrev pub Ends : Option (List ℕ) → Option (List ℕ) → Type 0
 Ends before now = OnKnown before now (λ bytes left. left ≡ [])
 
--- What is known of both streams: the bytes that are still unread, the bytes taken, the text that waits to be written,
--- and the counts of faults.
+-- What is known of both streams: the bytes held, all that are still unread, the bytes taken, the text that waits to be
+-- written, and the counts of faults.
 pub record Streams : Type 0 where
+  pub held : List ℕ
   pub unread : Option (List ℕ)
   pub taken : Option (List ℕ)
   pub pending : List ℕ
@@ -61,7 +62,7 @@ pub record Streams : Type 0 where
 
 -- the streams where a reader holds these bytes
 abbrev pub streams : List ℕ → Option (List ℕ) → Option (List ℕ) → List ℕ → ℕ → ℕ → Streams
-streams held left taken pending reads writes = record { unread = prepend_known held left; taken = taken; pending = pending; reads = reads; writes = writes }
+streams held left taken pending reads writes = record { held = held; unread = prepend_known held left; taken = taken; pending = pending; reads = reads; writes = writes }
 
 -- Neither stream failed; what was pending was taken or still waits.
 pub record IsQuiet (before now : Streams) : Type 0 where
@@ -106,11 +107,12 @@ pub record StopsLong (before now : Streams) : Type 0 where
   pub quiet : IsQuiet before now
   pub begins : OnTold before.unread BeginsLong
 
--- The source failed, in the midst of a line.
+-- The source failed, in the midst of a line, with no byte held.
 pub record StopsReading (before now : Streams) : Type 0 where
   pub reads : Rose before.reads now.reads
   pub writes : now.writes ≡ before.writes
   pub flows : Flows before.taken now.taken now.pending before.pending
+  pub none : now.held ≡ []
   pub part : List ℕ
   pub is_part : IsPart part
   pub consumed : Consumes before.unread now.unread part

@@ -1,11 +1,13 @@
 -- What one turn of a run does: it reads a line, carries out its call and makes the text of its answer.
-use Rattle.std.specs.Prelude.{◌≡◌, ℕ, ◌<◌, ◌≤◌, ◌^◌, List, [], ◌∷◌, ◌++◌, Option, length, string_bytes}
-use Rattle.std.specs.Io.KnownBytes.{Consumes}
+use Rattle.std.specs.Prelude.{◌≡◌, ℕ, ◌<◌, ◌≤◌, ◌^◌, List, [], ◌∷◌, ◌++◌, Option, length, string_bytes, ◌⊎◌}
+use Rattle.std.specs.Io.KnownBytes.{Consumes, Appends}
 use Rattle.mds_base.specs.Entries.{Entries}
 use Rattle.mds_base.specs.PlainRules.{PlainStep}
 use Rattle.mds_base.specs.declared.entry.Entry.{Entry}
 use Rattle.mds_base.specs.declared.setup.Which.{Which}
 use Rattle.mds_base.specs.declared.setup.Which.TheVariants.{Lines}
+use Rattle.mds_out.specs.Fault.{Rose}
+use Rattle.mds_out.specs.Stream.{TakesFront}
 use Rattle.mds_out.specs.Known.{OnTold}
 use Rattle.mds_cli.specs.Lines.{IsPart, lines_of}
 use Rattle.mds_cli.specs.Grammar.{IsEntryOf, IsSpelled}
@@ -113,3 +115,23 @@ status_of stops.TooLong number = BadScript number
 status_of stops.ReadFault number = ReadFault
 status_of stops.WriteFault number = WriteFault
 status_of stops.OutOfMemory number = OutOfMemory
+
+-- The status with which a run stops for this one: it stays where what was pending was taken, and else the sink failed.
+pub record StopsSame (status result : Status) (before now : Option (List ℕ)) (faults faults_now : ℕ) (pending : List ℕ) : Type 0 where
+  pub same : result ≡ status
+  pub taken : Appends before now pending
+  pub writes : faults_now ≡ faults
+
+pub record StopsBroken (result : Status) (before now : Option (List ℕ)) (faults faults_now : ℕ) (pending : List ℕ) : Type 0 where
+  pub broken : result ≡ WriteFault
+  pub taken : TakesFront before now pending
+  pub writes : Rose faults faults_now
+
+pub record StaysBroken (result : Status) (before now : Option (List ℕ)) (faults faults_now : ℕ) : Type 0 where
+  pub broken : result ≡ WriteFault
+  pub taken : now ≡ before
+  pub writes : faults_now ≡ faults
+
+abbrev pub StopsWith : Status → Status → Option (List ℕ) → Option (List ℕ) → ℕ → ℕ → List ℕ → Type 0
+StopsWith WriteFault result before now writes writes_now pending = StaysBroken result before now writes writes_now
+StopsWith status result before now writes writes_now pending = StopsSame status result before now writes writes_now pending ⊎ StopsBroken result before now writes writes_now pending

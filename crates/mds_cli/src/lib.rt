@@ -4,6 +4,7 @@
 mod grammar;
 mod line;
 mod reader;
+mod run;
 mod session;
 mod status;
 mod text;

@@ -1,17 +1,20 @@
 //! A run line by line: each call is carried out on a plain directory, and its texts are made.
-ghost use Rattle.std.specs.Prelude.{◌≡◌, [], ◌++◌, IfOk, IfErr, OnOk, OnErr, string_bytes};
+ghost use Rattle.std.specs.Prelude.{◌≡◌, [], ◌++◌, IfOk, IfErr, OnOk, OnErr, string_bytes, codes};
 ghost use Rattle.std.specs.FinMap as map;
 ghost use Rattle.mds_cli.specs.Run.{CarriesAll, StopsCarrying};
 ghost use Rattle.mds_cli.specs.Text.{answer_line, effect_line};
-ghost use Rattle.mds_cli.specs.Turn.{streams_of, CarriesCall, StopsCall, TakesTurn, StopsTurn, status_of};
+ghost use Rattle.mds_cli.specs.Turn.{streams_of, CarriesCall, StopsCall, TakesTurn, StopsTurn, StopsWith, status_of};
+ghost use Rattle.std.specs.Io.KnownBytes.{Appends};
+ghost use Rattle.mds_out.specs.Fault.{HasCause};
+ghost use Rattle.mds_out.specs.Stream.{TakesFront};
 
 use crate::grammar::call_of;
-use crate::line::{Line, Stop, next_line};
+use crate::line::{Line, Stop, flush, next_line};
 use crate::reader::Reader;
 use crate::status::Status;
 use crate::text::{AnswerLine, EffectLine};
 use mds_base::{Entry, Which};
-use mds_out::{Sink, Source};
+use mds_out::{Failed, Sink, Source, write_whole};
 use plain_dir::PlainDir;
 use std::alloc::{AllocError, Global};
 use std::fmt::Write;
@@ -80,6 +83,34 @@ impl Session {
                 Line::Last => return Ok(()),
                 Line::None => return Ok(()),
             }
+        }
+    }
+
+    /// Writes the answers that are still pending, the effects and `end`, and passes all on.
+    pub(crate) fn finish<K: Sink>(&mut self, output: &mut K) -> Result<(), Failed>
+        ensures whole { OnOk result (Appends (K.taken output.old) (K.taken output.new) (self.old.pending.items ++ string_bytes self.old.effects ++ codes "end\n")) }
+        ensures passed_on { OnOk result (K.passed_on output.new) }
+        ensures front { TakesFront (K.taken output.old) (K.taken output.new) (self.old.pending.items ++ string_bytes self.old.effects ++ codes "end\n") }
+        ensures cause { HasCause (K.faults output.old) (K.faults output.new) result }
+        ensures reader { self.new.reader ≡ self.old.reader }
+    {
+        write_both(output, &self.pending, self.effects.as_bytes())?;
+        write_whole(output, b"end\n")?;
+        output.finish()
+    }
+
+    /// Writes the answers that are still pending before the run stops with this status. Where the sink fails, or
+    /// failed before, the status is `WriteFault`.
+    pub(crate) fn stop<K: Sink>(&mut self, status: Status, output: &mut K) -> Status
+        ensures cases { StopsWith status result (K.taken output.old) (K.taken output.new) (K.faults output.old) (K.faults output.new) self.old.pending.items }
+        ensures reader { self.new.reader ≡ self.old.reader }
+    {
+        match status {
+            Status::WriteFault => Status::WriteFault,
+            _ => match flush(&mut self.pending, output) {
+                Ok(()) => status,
+                Err(Failed) => Status::WriteFault,
+            },
         }
     }
 
@@ -175,4 +206,14 @@ pub(crate) fn status_of(stop: Stop, number: u64) -> Status
         Stop::WriteFault => Status::WriteFault,
         Stop::OutOfMemory => Status::OutOfMemory,
     }
+}
+
+/// Has the sink take two texts, one behind the other. Where it fails it has taken a front of both.
+fn write_both<K: Sink>(output: &mut K, first: &[u8], second: &[u8]) -> Result<(), Failed>
+    ensures whole { OnOk result (Appends (K.taken output.old) (K.taken output.new) (first.now ++ second.now)) }
+    ensures front { TakesFront (K.taken output.old) (K.taken output.new) (first.now ++ second.now) }
+    ensures cause { HasCause (K.faults output.old) (K.faults output.new) result }
+{
+    write_whole(output, first)?;
+    write_whole(output, second)
 }

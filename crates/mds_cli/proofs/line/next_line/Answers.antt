@@ -21,4 +21,4 @@ returns-in-Ok-false-2-clause-ok g c = reads_last _ c.parts.reader (g.S.Source.le
     (omega (arith, eqb-false _ 0 (sym c.is_empty.ensures ∙ c.if-is_empty.false)))
 
 pub returns-in-Err-fill-clause-err : goal.returns-in-Err-fill-clause-err
-returns-in-Err-fill-clause-err g c = stops_reading _ c.parts.reader (g.S.Source.left c.parts.input) (g.K.Sink.taken c.parts.output) c.parts.pending.items (g.S.Source.faults c.parts.input) (g.K.Sink.faults c.parts.output) c.parts.line.items c.parts.invariant c.take_part.new.self c.take_part.new.line.items (rw c.in-Open.is at c.in_ok-take_part.ensures.ok) (g.K.Sink.taken c.flush.new.output) c.flush.new.pending.items (g.K.Sink.faults c.flush.new.output) c.in-Ok.ensures.whole c.in-Ok.ensures.none c.in-Ok.ensures.cause.kept c.fill.new.self (g.S.Source.left c.fill.new.input) (g.S.Source.faults c.fill.new.input) c.in-Err-fill.ensures.read c.in-Err-fill.ensures.cause.failed
+returns-in-Err-fill-clause-err g c = stops_reading _ c.parts.reader (g.S.Source.left c.parts.input) (g.K.Sink.taken c.parts.output) c.parts.pending.items (g.S.Source.faults c.parts.input) (g.K.Sink.faults c.parts.output) c.parts.line.items c.parts.invariant c.take_part.new.self c.take_part.new.line.items (rw c.in-Open.is at c.in_ok-take_part.ensures.ok) (g.K.Sink.taken c.flush.new.output) c.flush.new.pending.items (g.K.Sink.faults c.flush.new.output) c.in-Ok.ensures.whole c.in-Ok.ensures.none c.in-Ok.ensures.cause.kept c.fill.new.self (g.S.Source.left c.fill.new.input) (g.S.Source.faults c.fill.new.input) c.in-Err-fill.ensures.read c.in-Err-fill.ensures.cause.failed c.in-Err-fill.ensures.err
