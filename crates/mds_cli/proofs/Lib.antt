@@ -7,3 +7,4 @@ pub mod Carrying
 pub mod Turning
 pub mod Ending
 pub mod Running
+pub mod Statuses

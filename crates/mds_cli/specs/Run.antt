@@ -1,6 +1,7 @@
 -- What a run did: which lines it carried out, and the history that its entries are. The text that they made was taken,
 -- or is on its way, as `Text` says of the entries.
-use Rattle.std.specs.Prelude.{◌≡◌, ℕ, ◌+◌, ◌^◌, List, [], ◌∷◌, ◌++◌, Option, length, codes}
+use Rattle.std.specs.Prelude.{◌≡◌, ℕ, ◌+◌, ◌≤◌, ◌^◌, List, [], ◌∷◌, ◌++◌, Option, length, codes}
+use Rattle.std.specs.List.{AllByRecursion}
 use Rattle.std.specs.Io.KnownBytes.{Appends, Consumes}
 use Rattle.std.specs.FinMap as map
 use Rattle.mds_base.specs.declared.entry.Entry.{Entry}
@@ -137,3 +138,16 @@ EndsRun ReadFault first now = StopsByRead (ReadsFront first.unread now.unread (T
 EndsRun WriteFault first now = StopsByWrite (SomeLines first.unread (λ entries. TakesFront first.taken now.taken (text_of entries))) first now
 EndsRun (Limit which) first now = StopsAtLimit which (Took first now) first now
 EndsRun OutOfMemory first now = StopsQuietly (SomeLines first.unread (TookFront first now)) first now
+
+-- A script within the grammar and the limit of lines.
+pub record IsScript (bytes : List ℕ) : Type 0 where
+  pub spelled : AllByRecursion IsSpelled (lines_of bytes)
+  pub count : length (lines_of bytes) ≤ 2 ^ 22
+
+-- How a run of such a script may end: it is done, a stream failed, or there was no memory.
+abbrev pub Completes : Status → Streams → Streams → Type 0
+Completes Done first now = Unit {0}
+Completes ReadFault first now = Rose first.reads now.reads
+Completes WriteFault first now = Rose first.writes now.writes
+Completes OutOfMemory first now = Unit {0}
+Completes status first now = ⊥
