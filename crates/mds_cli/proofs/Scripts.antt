@@ -81,6 +81,7 @@ long_line (byte ∷ []) rest part some = by (lines_of rest) refl
   where
     here : lines_of (byte ∷ rest) ≡ onto_first byte (lines_of rest)
     here = ap (λ b. cond b ([] ∷ lines_of rest) (onto_first byte (lines_of rest))) (no_feed byte [] part)
+
     by : (lines : List (List ℕ)) → lines_of rest ≡ lines → LongLine (byte ∷ rest) 1
     by [] is = record { line = byte ∷ []; rest = []; is = here ∙ ap (onto_first byte) is; long = omega arith }
     by (line ∷ lines) is = record { line = byte ∷ line; rest = lines; is = here ∙ ap (onto_first byte) is; long = omega arith }

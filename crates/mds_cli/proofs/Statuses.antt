@@ -41,4 +41,3 @@ completes ReadFault first now ends = always first.unread (Completes ReadFault fi
 completes WriteFault first now ends = always first.unread (Completes WriteFault first now) ends.writes
 completes (Limit which) first now ends = never_full first.unread ends.stops.reason.entries (Completes (Limit which) first now) ends.stops.reason.count ends.stops.reason.spelled
 completes OutOfMemory first now ends = always first.unread (Completes OutOfMemory first now) tt
-

@@ -4,6 +4,7 @@ ghost use Rattle.mds_cli.specs.Code.{code_of};
 
 use mds_base::Which;
 use std::alloc::AllocError;
+use std::fmt;
 
 /// How a run of the program ended (`docs/PROMISES.md` says what is proved of each).
 #[derive(Clone, Copy, Debug, PartialEq, Eq)]
@@ -31,6 +32,47 @@ impl From<AllocError> for Status {
 
     fn from(_: AllocError) -> Status {
         Status::OutOfMemory
+    }
+}
+
+/// What standard error says of a status, behind the program's name.
+impl fmt::Display for Status {
+    ghost use Rattle.std.specs.Prelude.{Some};
+    ghost use Rattle.mds_cli.specs.Code.{status_text};
+
+    ghost output = { λ status. Some (status_text status) };
+
+    fn fmt<W: fmt::Write>(&self, f: &mut fmt::Formatter<W>) -> fmt::Result {
+        match self {
+            Status::Done => write!(f, "done"),
+            Status::Usage => write!(f, "usage"),
+            Status::BadScript { line } => write!(f, "bad script at line {line}"),
+            Status::ReadFault => write!(f, "read fault"),
+            Status::WriteFault => write!(f, "write fault"),
+            Status::Limit { which } => write!(f, "limit {}", LimitText(*which)),
+            Status::OutOfMemory => write!(f, "out of memory"),
+        }
+    }
+}
+
+/// A number that has a limit, by name.
+#[derive(Drop)]
+struct LimitText(Which);
+
+impl fmt::Display for LimitText {
+    ghost use Rattle.std.specs.Prelude.{Some};
+    ghost use Rattle.mds_cli.specs.Code.{limit_text};
+
+    ghost output = { λ text. Some (limit_text text.0) };
+
+    fn fmt<W: fmt::Write>(&self, f: &mut fmt::Formatter<W>) -> fmt::Result {
+        match self.0 {
+            Which::Events => write!(f, "events"),
+            Which::Rows => write!(f, "rows"),
+            Which::Lines => write!(f, "lines"),
+            Which::Moment => write!(f, "moment"),
+            Which::Directories => write!(f, "directories"),
+        }
     }
 }
 

@@ -2,8 +2,8 @@
 ghost use Rattle.std.specs.Prelude.{◌≡◌, ◌<◌};
 ghost use Rattle.mds_cli.specs.Text.{hex_digit};
 
-use mds_base::{Attr, Call, Entry, Final, Name, Reply};
 use crate::grammar::is_plain;
+use mds_base::{Attr, Call, Entry, Final, Name, Reply};
 use std::fmt;
 
 /// A name as a script spells it: bytes 21 to 7e (hexadecimal) but `%` as they are, every other byte as `%` and two
@@ -163,7 +163,13 @@ impl fmt::Display for AnswerLine<'_> {
 
     fn fmt<W: fmt::Write>(&self, f: &mut fmt::Formatter<W>) -> fmt::Result {
         let entry = self.0;
-        writeln!(f, "{} {} {}", entry.client, entry.seq, ReplyText(&entry.reply))
+        writeln!(
+            f,
+            "{} {} {}",
+            entry.client,
+            entry.seq,
+            ReplyText(&entry.reply)
+        )
     }
 }
 
@@ -179,6 +185,13 @@ impl fmt::Display for EffectLine<'_> {
 
     fn fmt<W: fmt::Write>(&self, f: &mut fmt::Formatter<W>) -> fmt::Result {
         let entry = self.0;
-        writeln!(f, "= {} {} {} {}", entry.client, entry.seq, CallText(&entry.call), ReplyText(&entry.reply))
+        writeln!(
+            f,
+            "= {} {} {} {}",
+            entry.client,
+            entry.seq,
+            CallText(&entry.call),
+            ReplyText(&entry.reply)
+        )
     }
 }

@@ -8,4 +8,3 @@
 mod directory;
 
 pub use directory::PlainDir;
-

@@ -8,6 +8,7 @@ returns-in_default c = none_found c.args.stop c.args.bytes.now c.in_default.ensu
 
 pub returns : goal.returns
 returns c = (
-    lacks_before c.args.stop c.args.bytes.now c.in-Some.at (λ k below is. c.in-Some.ensures.0.before k (omega arith) below is),
-    split_found c.args.stop c.args.bytes.now c.in-Some.at c.in-Some.ensures.0.high (eqb-true _ _ c.in-Some.ensures.1)
-    ∙ ap (λ l. take c.in-Some.at c.args.bytes.now ++ c.args.stop ∷ l) (sym (take_rest c.args.bytes.now (c.in-Some.at + 1))))
+  lacks_before c.args.stop c.args.bytes.now c.in-Some.at (λ k below is. c.in-Some.ensures.0.before k (omega arith) below is),
+  split_found c.args.stop c.args.bytes.now c.in-Some.at c.in-Some.ensures.0.high (eqb-true _ _ c.in-Some.ensures.1)
+      ∙ ap (λ l. take c.in-Some.at c.args.bytes.now ++ c.args.stop ∷ l) (sym (take_rest c.args.bytes.now (c.in-Some.at + 1))),
+)

@@ -12,8 +12,7 @@ single (y ∷ z ∷ xs) x one first = absurd (omega (arith, one))
 pub returns-in-len1 : goal.returns-in-len1
 returns-in-len1 c =
     let words = ap (map (λ w. string_bytes w)) (single c.args.words.now c.word-item.result (omega (arith, c.in-len1)) (sym c.word-item.is)) in
-    let decides = bytes_eq-Decides c.as_str.result.now (codes "solo") in
-    (
-        λ is. words ∙ ap (λ w. w ∷ []) (sym c.as_str.ensures.value ∙ decides.0 (sym c.eq.ensures ∙ is)),
-        λ are. c.eq.ensures ∙ decides.1 (c.as_str.ensures.value ∙ ap (λ ws. get_or ws 0 []) (sym words ∙ are)),
+    let decides = bytes_eq-Decides c.as_str.result.now (codes "solo") in (
+      λ is. words ∙ ap (λ w. w ∷ []) (sym c.as_str.ensures.value ∙ decides.0 (sym c.eq.ensures ∙ is)),
+      λ are. c.eq.ensures ∙ decides.1 (c.as_str.ensures.value ∙ ap (λ ws. get_or ws 0 []) (sym words ∙ are)),
     )

@@ -6,9 +6,12 @@ use Rattle.mds_cli.proofs.reader.Reader.take_part.Goals as goal
 
 pub invariant_of-self : goal.invariant_of-self
 invariant_of-self c =
-    let i = c.self.inside in
-    (part_within i.chunk.items i.from i.to c.min.result c.in-Some.part.now c.in-Some.field-0-1.now c.args.line.now.items c.self.invariant.0 c.self.invariant.1
-        (omega (arith, c.min.ensures)) (ap (λ l. take c.min.result (take (i.to - i.from) (drop i.from l))) (sym c.deref.ensures.value) ∙ c.in-Some.ensures.1), c.self.invariant.1, c.self.invariant.2)
+    let i = c.self.inside in (
+      part_within i.chunk.items i.from i.to c.min.result c.in-Some.part.now c.in-Some.field-0-1.now c.args.line.now.items c.self.invariant.0 c.self.invariant.1
+          (omega (arith, c.min.ensures)) (ap (λ l. take c.min.result (take (i.to - i.from) (drop i.from l))) (sym c.deref.ensures.value) ∙ c.in-Some.ensures.1),
+      c.self.invariant.1,
+      c.self.invariant.2,
+    )
 
 pub returns-in-Some-clause-ok : goal.returns-in-Some-clause-ok
 returns-in-Some-clause-ok c =

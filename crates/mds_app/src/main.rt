@@ -1,0 +1,38 @@
+//! The program: `giga_solo` over standard input and output.
+//!
+//! It stands on `mds_cli` for the run and on `mds_out` for its streams. Its own are the adapters of a reader and of a
+//! writer, which count each system error as a fault, and the line on standard error for a status other than done.
+#![tactic(auto)]
+
+mod input;
+mod output;
+
+use input::Input;
+use mds_cli::{Status, code, giga_solo};
+use output::Output;
+use std::process::ExitCode;
+use std::{env, io};
+
+fn main(rt: HostRuntime) -> ExitCode {
+    let status = run(&rt);
+    if status != Status::Done {
+        let _ = eprintln!(rt; "giga: {status}");
+    }
+    ExitCode::from(code(&status))
+}
+
+/// Runs the program on the words of its command line.
+fn run(rt: &HostRuntime) -> Status {
+    let mut words = match env::args(rt) {
+        Ok(words) => words,
+        Err(error) if error.kind() == io::ErrorKind::OutOfMemory => return Status::OutOfMemory,
+        Err(_) => return Status::Usage,
+    };
+    let _program = words.next();
+    let Ok(words) = words.collect::<Vec<String>>(rt.alloc()) else {
+        return Status::OutOfMemory;
+    };
+    let mut input = Input::new(rt.stdin());
+    let mut output = Output::new(rt.stdout());
+    giga_solo(rt.alloc(), &words, &mut input, &mut output)
+}
