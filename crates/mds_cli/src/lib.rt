@@ -20,3 +20,6 @@ mod text;
 pub use mds_base::Which;
 pub use solo::giga_solo;
 pub use status::{Status, code};
+
+#[cfg(test)]
+mod tests;
