@@ -7,10 +7,13 @@
 //! begins another one.
 #![tactic(auto)]
 
+mod fault;
 mod handled;
 mod msg;
+mod reading;
 mod record;
 
+pub use fault::RecordFault;
 pub use handled::Handled;
 pub use msg::{Msg, MsgList};
 pub use record::{Record, RecordList};

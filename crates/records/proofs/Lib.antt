@@ -1,0 +1,4 @@
+pub mod Numbers
+pub mod Decoding
+pub mod Fields
+pub mod Records
