@@ -1,7 +1,7 @@
 -- What it is to read a grammar exactly, and how readers of the parts make a reader of the whole.
-use Rattle.std.proofs.Common.{◌≡◌, ◌∙◌, sym, ap, subst, refl, ℕ, zero, suc, ◌+◌, ◌-◌, ◌<◌, ◌≤◌, Bool, true, false, cond, List, [], ◌∷◌, ◌++◌, append_assoc, length, get_or, arith, Result, Ok, Err, inl, inr, ◌⊎◌}
+use Rattle.std.proofs.Common.{◌≡◌, ◌∙◌, sym, ap, subst, refl, ℕ, suc, ◌<◌, ◌≤◌, Bool, true, false, cond, List, [], ◌∷◌, ◌++◌, append_assoc, length, get_or, arith, Result, Ok, Err, inl, inr, ◌⊎◌}
 use Rattle.std.proofs.lemmas.Bool.{cases_lt}
-use Rattle.std.proofs.lemmas.List.{append-nil, length-append}
+use Rattle.std.proofs.lemmas.List.{length-append}
 use Rattle.records.specs.declared.fault.Fault.{Fault}
 use Rattle.records.specs.declared.fault.Fault.TheVariants.{Short, Bad}
 use Rattle.records.specs.Faults.{◌>>=◌}
@@ -114,7 +114,6 @@ pub record Seq {X Y : Type 0} (G : List ℕ → X → Type 0) (H : X → List �
 
 module _ {X Y : Type 0} {G : List ℕ → X → Type 0} {H : X → List ℕ → Y → Type 0} {f : List ℕ → Result (X × List ℕ) Fault} {g : X → List ℕ → Result (Y × List ℕ) Fault}
     (one : Decodes G f) (next : (text : List ℕ) (x : X) → G text x → Follows (H x) (g x)) where
-
   both : List ℕ → Result (Y × List ℕ) Fault
   both bytes = f bytes >>= λ p. g p.0 p.1
 
@@ -158,24 +157,24 @@ module _ {X Y : Type 0} {G : List ℕ → X → Type 0} {H : X → List ℕ → 
 
   then_short : (bytes : List ℕ) → IsBytes bytes → (f bytes >>= λ p. g p.0 p.1) ≡ Err Short → Begun (Seq G H) bytes
   then_short bytes fits e = elim (bind_err (f bytes) (λ p. g p.0 p.1) Short e) [
-      | inl first ↦ begun_first bytes (one.short bytes fits first)
-      | inr s ↦
-          let a = one.found bytes s.value.0 s.value.1 fits s.first in
-          let b = (next a.text s.value.0 a.spelled).decodes.short s.value.1 (rest_bytes bytes a.text s.value.1 fits a.parts) s.second in
-          subst (Begun (Seq G H)) (sym a.parts) (begun_second a.text s.value.0 s.value.1 a.spelled b)
-    ]
+    | inl first ↦ begun_first bytes (one.short bytes fits first)
+    | inr s ↦
+        let a = one.found bytes s.value.0 s.value.1 fits s.first in
+        let b = (next a.text s.value.0 a.spelled).decodes.short s.value.1 (rest_bytes bytes a.text s.value.1 fits a.parts) s.second in
+        subst (Begun (Seq G H)) (sym a.parts) (begun_second a.text s.value.0 s.value.1 a.spelled b)
+  ]
 
   -- no spelling of the first value goes past a byte that it refuses, and none ends before it
   never_first : (bytes : List ℕ) (left : ℕ) (r : Refuses G bytes left) → f bytes ≡ Err (Bad left) → (more : List ℕ) (y : Y) → Seq G H (r.front ++ r.byte ∷ more) y → ⊥
   never_first bytes left r e more y s = elim (cases_lt (length r.front) (length s.front)) [
-      | inl longer ↦
-          let p = split_front r.front (r.byte ∷ more) s.front s.back s.parts (omega arith) in
-          past p (one_more p.between (omega (arith, ap length p.front, length-append r.front p.between)))
-      | inr within ↦
-          let p = split_front s.front s.back r.front (r.byte ∷ more) (sym s.parts) within in
-          let whole : bytes ≡ s.front ++ (p.between ++ r.byte ∷ r.rest) = r.parts ∙ ap (λ (t : List ℕ). t ++ r.byte ∷ r.rest) p.front ∙ append_assoc s.front p.between (r.byte ∷ r.rest) in
-          not_both (f bytes) (s.value, p.between ++ r.byte ∷ r.rest) (Bad left) (ap f whole ∙ one.again s.front s.value (p.between ++ r.byte ∷ r.rest) s.first) e
-    ]
+    | inl longer ↦
+        let p = split_front r.front (r.byte ∷ more) s.front s.back s.parts (omega arith) in
+        past p (one_more p.between (omega (arith, ap length p.front, length-append r.front p.between)))
+    | inr within ↦
+        let p = split_front s.front s.back r.front (r.byte ∷ more) (sym s.parts) within in
+        let whole : bytes ≡ s.front ++ (p.between ++ r.byte ∷ r.rest) = r.parts ∙ ap (λ (t : List ℕ). t ++ r.byte ∷ r.rest) p.front ∙ append_assoc s.front p.between (r.byte ∷ r.rest) in
+        not_both (f bytes) (s.value, p.between ++ r.byte ∷ r.rest) (Bad left) (ap f whole ∙ one.again s.front s.value (p.between ++ r.byte ∷ r.rest) s.first) e
+  ]
     where
       one_more : (list : List ℕ) → 0 < length list → (b : ℕ) × (rest : List ℕ) × (list ≡ b ∷ rest)
       one_more [] some = absurd (omega arith)
@@ -190,22 +189,22 @@ module _ {X Y : Type 0} {G : List ℕ → X → Type 0} {H : X → List ℕ → 
 
   then_bad : (bytes : List ℕ) (left : ℕ) → IsBytes bytes → (f bytes >>= λ p. g p.0 p.1) ≡ Err (Bad left) → Refuses (Seq G H) bytes left
   then_bad bytes left fits e = elim (bind_err (f bytes) (λ p. g p.0 p.1) (Bad left) e) [
-      | inl first ↦
-          let r = one.bad bytes left fits first in
-          record { front = r.front; byte = r.byte; rest = r.rest; parts = r.parts; left_is = r.left_is; begun = begun_first r.front r.begun; never = never_first bytes left r first }
-      | inr s ↦
-          let a = one.found bytes s.value.0 s.value.1 fits s.first in
-          let r = (next a.text s.value.0 a.spelled).decodes.bad s.value.1 left (rest_bytes bytes a.text s.value.1 fits a.parts) s.second in
-          record {
-            front = a.text ++ r.front;
-            byte = r.byte;
-            rest = r.rest;
-            parts = a.parts ∙ ap (λ (t : List ℕ). a.text ++ t) r.parts ∙ sym (append_assoc a.text r.front (r.byte ∷ r.rest));
-            left_is = r.left_is;
-            begun = begun_second a.text s.value.0 r.front a.spelled r.begun;
-            never = never_second a.text s.value.0 a.spelled s.value.1 left r;
-          }
-    ]
+    | inl first ↦
+        let r = one.bad bytes left fits first in
+        record { front = r.front; byte = r.byte; rest = r.rest; parts = r.parts; left_is = r.left_is; begun = begun_first r.front r.begun; never = never_first bytes left r first }
+    | inr s ↦
+        let a = one.found bytes s.value.0 s.value.1 fits s.first in
+        let r = (next a.text s.value.0 a.spelled).decodes.bad s.value.1 left (rest_bytes bytes a.text s.value.1 fits a.parts) s.second in
+        record {
+          front = a.text ++ r.front;
+          byte = r.byte;
+          rest = r.rest;
+          parts = a.parts ∙ ap (λ (t : List ℕ). a.text ++ t) r.parts ∙ sym (append_assoc a.text r.front (r.byte ∷ r.rest));
+          left_is = r.left_is;
+          begun = begun_second a.text s.value.0 r.front a.spelled r.begun;
+          never = never_second a.text s.value.0 a.spelled s.value.1 left r;
+        }
+  ]
     where
       never_second : (text : List ℕ) (x : X) (first : G text x) (after : List ℕ) (n : ℕ) (r : Refuses (H x) after n) (more : List ℕ) (y : Y) → Seq G H ((text ++ r.front) ++ r.byte ∷ more) y → ⊥
       never_second text x first after n r more y s =

@@ -1,8 +1,7 @@
 -- The readers of the fields read them exactly: bytes, numbers and names.
-use Rattle.std.proofs.Common.{◌≡◌, ◌∙◌, sym, ap, subst, refl, ℕ, zero, suc, ◌+◌, ◌-◌, ◌*◌, ◌/◌, ◌%◌, ◌^◌, ◌<◌, ◌≤◌, ◌==◌, Bool, true, false, cond, not, nat_lt, nat_le, nat_eq, ◌&&◌, ◌||◌, List, [], ◌∷◌, ◌++◌, append_assoc, length, get_or, take, drop, add-one, lit≤, lit<, min, arith, Result, Ok, Err, inl, inr, ◌⊎◌}
+use Rattle.std.proofs.Common.{◌≡◌, ◌∙◌, sym, ap, subst, refl, ℕ, zero, suc, ◌+◌, ◌-◌, ◌*◌, ◌/◌, ◌%◌, ◌^◌, ◌<◌, ◌≤◌, ◌==◌, Bool, true, false, cond, not, nat_lt, nat_le, ◌&&◌, List, [], ◌∷◌, ◌++◌, append_assoc, length, get_or, take, drop, add-one, lit≤, lit<, min, arith, Result, Ok, Err, inl, inr}
 use Rattle.std.specs.Prelude.{IsTrue}
 use Rattle.std.specs.List.{list_all, list_any}
-use Rattle.std.specs.Cmp.Lexicographic.{pointwise}
 use Rattle.std.specs.Int.{byte_at, bytes_high_first}
 use Rattle.std.proofs.Math.Nat.{div-one, div-div-eq-div-mul, div-lt_iff_lt-mul, mul-div_left, le-div_iff_mul-le, div-mul-le_self, pow-suc}
 use Rattle.std.proofs.Math.Seq.{drop-cons, take-suc}
@@ -12,10 +11,9 @@ use Rattle.std.proofs.lemmas.List.{length-append, length-take, length-drop, drop
 use Rattle.mds_base.specs.Name.{is_name, is_name_byte, is_dots}
 use Rattle.records.specs.declared.fault.Fault.{Fault}
 use Rattle.records.specs.declared.fault.Fault.TheVariants.{Short, Bad}
-use Rattle.records.specs.Faults.{◌>>=◌}
 use Rattle.records.specs.Reading.{byte_where, byte_among, leads_into, number_after, number_at, from_foreign, text_from, text_at, name_at}
 use Rattle.records.proofs.Numbers.{weight_pos}
-use Rattle.records.proofs.Decoding.{IsBytes, Begun, Takes, Refuses, Decodes, Follows, Seq, Ends, in_turn, ends_here, same_grammar, failed}
+use Rattle.records.proofs.Decoding.{IsBytes, Begun, Takes, Refuses, Decodes, Follows, Seq, in_turn, ends_here, same_grammar, failed}
 
 -- ---- one byte
 
@@ -177,14 +175,14 @@ module _ (least most : ℕ) (le : least ≤ most) where
   unfolding number_after
   after_reads zero value on =
       same_grammar
-        (λ text n s. record { before = div-one n ∙ s.is; low = let low = leads_low least most 0 value on in let one = div-one least in omega (arith, s.is); high = let high = leads_high least most 0 value on in let one = div-one most in omega (arith, s.is); text_is = s.none })
-        (λ text n s. record { none = s.text_is; is = sym (div-one n) ∙ s.before })
-        (ends_here value)
+      (λ text n s. record { before = div-one n ∙ s.is; low = let low = leads_low least most 0 value on in let one = div-one least in omega (arith, s.is); high = let high = leads_high least most 0 value on in let one = div-one most in omega (arith, s.is); text_is = s.none })
+      (λ text n s. record { none = s.text_is; is = sym (div-one n) ∙ s.before })
+      (ends_here value)
   after_reads (suc left) value on =
       let some = some_number least most (suc left) value le on in
       let w = parted left value (bytes_high_first (suc left) some.n) some.n (record { before = some.before; low = some.low; high = some.high; text_is = refl }) in
       same_grammar (joined left value) (parted left value)
-        (in_turn (byte_reads (next left value) w.value w.first.byte w.first.passes).decodes (λ text b s. numbers_follow left (value * 256 + b) s.passes (after_reads left (value * 256 + b) s.passes)))
+      (in_turn (byte_reads (next left value) w.value w.first.byte w.first.passes).decodes (λ text b s. numbers_follow left (value * 256 + b) s.passes (after_reads left (value * 256 + b) s.passes)))
 
   -- a number of so many bytes, from least to most, is read exactly
   pub number_reads : (width : ℕ) → most < 256 ^ width → Follows (NumberOf width least most) (number_at width least most)
@@ -195,9 +193,9 @@ module _ (least most : ℕ) (le : least ≤ most) where
       let on = leads least most width 0 (let z = none least (omega arith) in omega arith) (omega arith) in
       record {
         decodes = same_grammar
-          (λ text n s. record { low = s.low; high = s.high; text_is = s.text_is })
-          (λ text n s. record { before = none n (let high = s.high in omega arith); low = s.low; high = s.high; text_is = s.text_is })
-          (after_reads width 0 on);
+            (λ text n s. record { low = s.low; high = s.high; text_is = s.text_is })
+            (λ text n s. record { before = none n (let high = s.high in omega arith); low = s.low; high = s.high; text_is = s.text_is })
+            (after_reads width 0 on);
         text = bytes_high_first width least;
         value = least;
         spelled = record { low = omega arith; high = le; text_is = refl };
@@ -399,10 +397,10 @@ module _ (len : ℕ) (some : 1 ≤ len) (few : len ≤ 255) where
             left_is = sym is ∙ omega (arith, length-append foreign (drop len bytes), length-drop len bytes);
             begun = text_begun f.before f.plain (omega arith);
             never = λ more name s.
-              let plain : list_all is_name_byte (f.before ++ b ∷ more) ≡ true = rw s.text_is (name_plain name s.named) in
-              let on : is_name_byte b ≡ true = and_first (is_name_byte b) _ (plain_back f.before (b ∷ more) plain) in
-              let off = f.off in
-              cc;
+                let plain : list_all is_name_byte (f.before ++ b ∷ more) ≡ true = rw s.text_is (name_plain name s.named) in
+                let on : is_name_byte b ≡ true = and_first (is_name_byte b) _ (plain_back f.before (b ∷ more) plain) in
+                let off = f.off in
+                cc;
           }
 
       -- bytes that all may stand in a name, and are none
@@ -423,11 +421,11 @@ module _ (len : ℕ) (some : 1 ≤ len) (few : len ≤ 255) where
             left_is = sym is ∙ omega (arith, length-drop len bytes);
             begun = text_begun (take (len - 1) bytes) before (omega arith);
             never = λ more name s.
-              let size : length (take (len - 1) bytes ++ get_or bytes (len - 1) 0 ∷ more) ≡ len = ap length s.text_is ∙ s.long in
-              let nothing : more ≡ [] = nil_from_length more (omega (arith, length-append (take (len - 1) bytes) (get_or bytes (len - 1) 0 ∷ more))) in
-              let same : take len bytes ≡ name = one_more ∙ ap (λ (t : List ℕ). take (len - 1) bytes ++ get_or bytes (len - 1) 0 ∷ t) (sym nothing) ∙ s.text_is in
-              let on : is_name (take len bytes) ≡ true = ap is_name same ∙ s.named in
-              cc;
+                let size : length (take (len - 1) bytes ++ get_or bytes (len - 1) 0 ∷ more) ≡ len = ap length s.text_is ∙ s.long in
+                let nothing : more ≡ [] = nil_from_length more (omega (arith, length-append (take (len - 1) bytes) (get_or bytes (len - 1) 0 ∷ more))) in
+                let same : take len bytes ≡ name = one_more ∙ ap (λ (t : List ℕ). take (len - 1) bytes ++ get_or bytes (len - 1) 0 ∷ t) (sym nothing) ∙ s.text_is in
+                let on : is_name (take len bytes) ≡ true = ap is_name same ∙ s.named in
+                cc;
           }
 
       enough_of : nat_lt (length bytes) len ≡ false → len ≤ length bytes
@@ -453,9 +451,9 @@ module _ (len : ℕ) (some : 1 ≤ len) (few : len ≤ 255) where
 -- the ways in which reading a name of so many bytes ends
 pub front_of : (len n : ℕ) (bytes : List ℕ) → n ≡ min len (length bytes) → take n bytes ≡ take len bytes
 front_of len n bytes is = elim (cases_lt (length bytes) len) [
-    | inl below ↦ let all : n ≡ length bytes = omega arith in rw all (take_all (length bytes) bytes (omega arith) ∙ sym (take_all len bytes (omega arith)))
-    | inr within ↦ let all : n ≡ len = omega arith in rw all refl
-  ]
+  | inl below ↦ let all : n ≡ length bytes = omega arith in rw all (take_all (length bytes) bytes (omega arith) ∙ sym (take_all len bytes (omega arith)))
+  | inr within ↦ let all : n ≡ len = omega arith in rw all refl
+]
 
 pub text_foreign : (len left behind : ℕ) (bytes : List ℕ) → length (from_foreign (take len bytes)) ≡ left → 0 < left → behind ≡ length bytes - len → text_at len bytes ≡ Err (Bad (left + behind))
 unfolding text_at
@@ -497,14 +495,14 @@ name_reads =
     let a : List ℕ = 97 ∷ [] in
     record {
       decodes = same_grammar
-        (λ text name s.
+          (λ text name s.
           let one : s.value % 256 ≡ s.value = let high = s.first.high in omega arith in
           record { text_is = s.parts ∙ ap (λ (t : List ℕ). t ++ s.back) s.first.text_is ∙ ap (λ (t : List ℕ). s.value % 256 ∷ t) s.second.text_is ∙ ap (λ (n : ℕ). n ∷ name) (one ∙ sym s.second.long); named = s.second.named })
-        (λ text name s.
+          (λ text name s.
           let sizes = name_short name s.named in
           let one : length name % 256 ≡ length name = let few = sizes.1 in omega arith in
           record { front = length name ∷ []; back = name; value = length name; parts = s.text_is; first = record { low = sizes.0; high = sizes.1; text_is = ap (λ (n : ℕ). n ∷ []) (sym one) }; second = record { text_is = refl; long = refl; named = s.named } })
-        (in_turn (number_reads 1 255 (lit≤ tt) 1 (lit< tt)).decodes (λ text len s. text_reads len s.low s.high));
+          (in_turn (number_reads 1 255 (lit≤ tt) 1 (lit< tt)).decodes (λ text len s. text_reads len s.low s.high));
       text = 1 ∷ a;
       value = a;
       spelled = record { text_is = refl; named = refl };

@@ -1,28 +1,26 @@
 -- The readers of calls, finals and records read them exactly.
-use Rattle.std.proofs.Common.{◌≡◌, ◌∙◌, sym, ap, subst, refl, ℕ, zero, suc, ◌+◌, ◌-◌, ◌^◌, ◌<◌, ◌≤◌, ◌==◌, Bool, true, false, cond, ◌||◌, List, [], ◌∷◌, ◌++◌, append_assoc, length, lit≤, lit<, arith, Result, Ok, Err, Option, Some, None, MatchOption, if◌then◌else◌, inl, inr, ◌⊎◌}
+use Rattle.std.proofs.Common.{◌≡◌, ◌∙◌, sym, ap, subst, refl, ℕ, ◌-◌, ◌^◌, ◌<◌, ◌≤◌, ◌==◌, Bool, true, false, cond, ◌||◌, List, [], ◌∷◌, ◌++◌, lit≤, lit<, arith, Option, Some, None, MatchOption, if◌then◌else◌, inl, inr, ◌⊎◌}
 use Rattle.std.specs.Prelude.{IsTrue}
 use Rattle.std.specs.Cmp.{eq_by_cmp_equiv}
 use Rattle.std.specs.FinMap as map
-use Rattle.std.specs.Int.{w16, w32, w64, to_be_bytes, bytes_high_first}
+use Rattle.std.specs.Int.{w16, w32, w64, to_be_bytes}
 use Rattle.std.proofs.lemmas.Bool.{eqb-true}
 use Rattle.std.proofs.lemmas.List.{append-nil}
 use Rattle.mds_base.specs.declared.attr.Attr.{Attr}
 use Rattle.mds_base.specs.declared.call.Call.{Call}
 use Rattle.mds_base.specs.declared.call.Call.TheVariants.{Create, Mkdir, Remove, Lookup, Setattr, Scan, Grab, Load, Link}
 use Rattle.mds_base.specs.declared.reply.Final.{Final}
-use Rattle.mds_base.specs.declared.reply.Final.TheVariants.{Created, CreatedDir, Exists, Removed, Missing, IsDir, Set, Ids, Loaded, Stale}
+use Rattle.mds_base.specs.declared.reply.Final.TheVariants.{Created, CreatedDir, Exists, Removed, Missing, IsDir, Set}
 use Rattle.mds_base.specs.declared.reply.Reply.{Reply}
 use Rattle.mds_base.specs.declared.reply.Reply.TheVariants.{Said}
 use Rattle.mds_base.specs.Name.{is_name}
 use Rattle.mds_base.specs.Entries.{Place, place_cmp, Entries, new_file, new_directory, is_file}
-use Rattle.mds_base.specs.PlainRules.{Allows}
 use Rattle.mds_base.proofs.Places.{places_total}
 use Rattle.records.specs.declared.record.Record.{Record}
 use Rattle.records.specs.declared.record.Record.TheVariants.{Head, Opened, Served}
-use Rattle.records.specs.Faults.{◌>>=◌}
-use Rattle.records.specs.Spelling.{IsDirectory, IsChange, MaySay, IsNumbered, IsHead, IsServed, IsRecord, name_spelling, call_spelling, tag_of, number_of, final_spelling, record_spelling, Spells}
-use Rattle.records.specs.Reading.{byte_among, number_at, name_at, call_after, call_at, tags_of, final_of, final_at, head_at, served_at, record_at}
-use Rattle.records.proofs.Decoding.{Decodes, Follows, Seq, Ends, ends_here, follows_here, by_test, both_follow, same_follows}
+use Rattle.records.specs.Spelling.{IsDirectory, IsChange, MaySay, IsNumbered, IsHead, IsServed, name_spelling, call_spelling, tag_of, number_of, final_spelling, Spells}
+use Rattle.records.specs.Reading.{call_after, call_at, tags_of, final_of, final_at, head_at, served_at, record_at}
+use Rattle.records.proofs.Decoding.{Follows, Seq, Ends, follows_here, by_test, both_follow, same_follows}
 use Rattle.records.proofs.Fields.{OneByte, is_among, among_reads, NumberOf, number_reads, NameOf, name_reads}
 
 -- which of some numbers it is
@@ -33,9 +31,9 @@ AnyOf b (k ∷ ks) = (b ≡ k) ⊎ AnyOf b ks
 any_of : (allowed : List ℕ) (b : ℕ) → is_among allowed b ≡ true → AnyOf b allowed
 any_of [] b e = absurd cc
 any_of (k ∷ ks) b e = elim (k == b) as (λ t. (k == b) ≡ t → (t || is_among ks b) ≡ true → AnyOf b (k ∷ ks)) [
-    | true ↦ λ is rest. inl (sym (eqb-true k b is))
-    | false ↦ λ is rest. inr (any_of ks b rest)
-  ] refl e
+  | true ↦ λ is rest. inl (sym (eqb-true k b is))
+  | false ↦ λ is rest. inr (any_of ks b rest)
+] refl e
 
 -- ---- calls
 
@@ -53,7 +51,7 @@ after_reads : (kind dir : ℕ) (name : List ℕ) → Follows (After kind dir nam
 unfolding call_after
 after_reads kind dir name =
     by_test (kind == 1) (λ _. follows_here (Create dir name)) (λ _. by_test (kind == 2) (λ _. follows_here (Mkdir dir name)) (λ _. by_test (kind == 3) (λ _. follows_here (Remove dir name)) (λ _.
-      both_follow (number_reads 0 4095 (omega arith) 2 (lit< tt)) (λ text mode s. both_follow (number_reads 0 (2 ^ 64 - 1) (omega arith) 8 (lit< tt)) (λ more size u. follows_here (Setattr dir name mode size))))))
+    both_follow (number_reads 0 4095 (omega arith) 2 (lit< tt)) (λ text mode s. both_follow (number_reads 0 (2 ^ 64 - 1) (omega arith) 8 (lit< tt)) (λ more size u. follows_here (Setattr dir name mode size))))))
 
 -- a call that a log keeps, and its spelling
 pub record CallText (text : List ℕ) (call : Call) : Type 0 where
@@ -99,8 +97,8 @@ call_there text call s =
     record {
       change = made.0;
       text_is = s.parts ∙ ap (λ (t : List ℕ). t ++ s.back) s.first.text_is
-        ∙ ap (λ (t : List ℕ). s.value ∷ t) (d.parts ∙ ap (λ (t : List ℕ). t ++ d.back) d.first.text_is ∙ ap (λ (t : List ℕ). to_be_bytes w64 d.value ++ t) (n.parts ∙ ap (λ (t : List ℕ). t ++ n.back) n.first.text_is))
-        ∙ made.1;
+          ∙ ap (λ (t : List ℕ). s.value ∷ t) (d.parts ∙ ap (λ (t : List ℕ). t ++ d.back) d.first.text_is ∙ ap (λ (t : List ℕ). to_be_bytes w64 d.value ++ t) (n.parts ∙ ap (λ (t : List ℕ). t ++ n.back) n.first.text_is))
+          ∙ made.1;
     }
 
 -- the parts of a call of this kind, with what follows its name
@@ -233,7 +231,7 @@ final_made (Mkdir dir name) change tag number (inl is) low high =
     let from : 1 ≤ number = subst (λ (k : ℕ). low_of k ≤ number) is low in
     let to : number ≤ 2 ^ 48 - 1 = subst (λ (k : ℕ). number ≤ high_of k) is high in
     let absent : MatchOption (map.get nothing (dir, name)) ((n : ℕ) × (Said (CreatedDir number) ≡ Said (CreatedDir n))) (λ _. Said (CreatedDir number) ≡ Said Exists) =
-        subst (λ (o : Option Attr). MatchOption o ((n : ℕ) × (Said (CreatedDir number) ≡ Said (CreatedDir n))) (λ _. Said (CreatedDir number) ≡ Said Exists)) (sym (map.get-empty place_cmp (dir, name))) (number, refl) in
+    subst (λ (o : Option Attr). MatchOption o ((n : ℕ) × (Said (CreatedDir number) ≡ Said (CreatedDir n))) (λ _. Said (CreatedDir number) ≡ Said Exists)) (sym (map.get-empty place_cmp (dir, name))) (number, refl) in
     rw is (record { reply = (nothing, absent); numbered = in_directory number from to; tag_is = refl; number_is = refl })
 final_made (Mkdir dir name) change tag number (inr (inl is)) low high = without (Mkdir dir name) 3 tag number is refl high (record { reply = (only (dir, name) new_file, says_there (dir, name) new_file _ (λ _. Said Exists ≡ Said Exists) refl); numbered = tt; tag_is = refl; number_is = refl })
 final_made (Mkdir dir name) change tag number (inr (inr none)) low high = absurd none
@@ -281,21 +279,21 @@ made_directory dir name said numbered s =
 
 tagged : (call : Call) (said : Final) → IsChange call → MaySay call said → IsNumbered said → Tagged call said
 tagged (Create dir name) said change may numbered = elim (one_of_two (map.get may.0 (dir, name)) _ _ may.1) [
-    | inl e ↦ tagged_as (Create dir name) Created said e (record { byte = lit< tt; among = refl; low = lit≤ tt; high = lit≤ tt; back = refl })
-    | inr e ↦ tagged_as (Create dir name) Exists said e.1 (record { byte = lit< tt; among = refl; low = lit≤ tt; high = lit≤ tt; back = refl })
-  ]
+  | inl e ↦ tagged_as (Create dir name) Created said e (record { byte = lit< tt; among = refl; low = lit≤ tt; high = lit≤ tt; back = refl })
+  | inr e ↦ tagged_as (Create dir name) Exists said e.1 (record { byte = lit< tt; among = refl; low = lit≤ tt; high = lit≤ tt; back = refl })
+]
 tagged (Mkdir dir name) said change may numbered = elim (one_of_two (map.get may.0 (dir, name)) _ _ may.1) [
-    | inl e ↦ made_directory dir name said numbered e
-    | inr e ↦ tagged_as (Mkdir dir name) Exists said e.1 (record { byte = lit< tt; among = refl; low = lit≤ tt; high = lit≤ tt; back = refl })
-  ]
+  | inl e ↦ made_directory dir name said numbered e
+  | inr e ↦ tagged_as (Mkdir dir name) Exists said e.1 (record { byte = lit< tt; among = refl; low = lit≤ tt; high = lit≤ tt; back = refl })
+]
 tagged (Remove dir name) said change may numbered = elim (one_of_two (map.get may.0 (dir, name)) _ _ may.1) [
-    | inl e ↦ tagged_as (Remove dir name) Missing said e (record { byte = lit< tt; among = refl; low = lit≤ tt; high = lit≤ tt; back = refl })
-    | inr e ↦ removed_or dir name said (is_file e.0) e.1
-  ]
+  | inl e ↦ tagged_as (Remove dir name) Missing said e (record { byte = lit< tt; among = refl; low = lit≤ tt; high = lit≤ tt; back = refl })
+  | inr e ↦ removed_or dir name said (is_file e.0) e.1
+]
 tagged (Setattr dir name mode size) said change may numbered = elim (one_of_two (map.get may.0 (dir, name)) _ _ may.1) [
-    | inl e ↦ tagged_as (Setattr dir name mode size) Missing said e (record { byte = lit< tt; among = refl; low = lit≤ tt; high = lit≤ tt; back = refl })
-    | inr e ↦ tagged_as (Setattr dir name mode size) Set said e.1 (record { byte = lit< tt; among = refl; low = lit≤ tt; high = lit≤ tt; back = refl })
-  ]
+  | inl e ↦ tagged_as (Setattr dir name mode size) Missing said e (record { byte = lit< tt; among = refl; low = lit≤ tt; high = lit≤ tt; back = refl })
+  | inr e ↦ tagged_as (Setattr dir name mode size) Set said e.1 (record { byte = lit< tt; among = refl; low = lit≤ tt; high = lit≤ tt; back = refl })
+]
 tagged (Lookup dir name) said change may numbered = absurd change
 tagged (Scan dir) said change may numbered = absurd change
 tagged (Grab dir name count) said change may numbered = absurd change
@@ -373,8 +371,8 @@ head_there text item s =
       item_is = t.second.is;
       head = record { format_is = first_format s.value (any_of (1 ∷ []) s.value s.first.passes); some_server = n.first.low; few_servers = n.first.high; below = omega arith; some_row = t.first.low; few_rows = t.first.high };
       text_is = s.parts ∙ ap (λ (u : List ℕ). u ++ s.back) s.first.text_is ∙ ap (λ (u : List ℕ). s.value ∷ u) (n.parts ∙ ap (λ (u : List ℕ). u ++ n.back) n.first.text_is
-        ∙ ap (λ (u : List ℕ). to_be_bytes w32 n.value ++ u) (m.parts ∙ ap (λ (u : List ℕ). u ++ m.back) m.first.text_is
-        ∙ ap (λ (u : List ℕ). to_be_bytes w32 m.value ++ u) (t.parts ∙ ap (λ (u : List ℕ). u ++ t.back) t.first.text_is ∙ ap (λ (u : List ℕ). to_be_bytes w32 t.value ++ u) t.second.none ∙ append-nil (to_be_bytes w32 t.value))));
+          ∙ ap (λ (u : List ℕ). to_be_bytes w32 n.value ++ u) (m.parts ∙ ap (λ (u : List ℕ). u ++ m.back) m.first.text_is
+          ∙ ap (λ (u : List ℕ). to_be_bytes w32 m.value ++ u) (t.parts ∙ ap (λ (u : List ℕ). u ++ t.back) t.first.text_is ∙ ap (λ (u : List ℕ). to_be_bytes w32 t.value ++ u) t.second.none ∙ append-nil (to_be_bytes w32 t.value))));
     }
 
 head_back : (text : List ℕ) (item : Record) → HeadText text item → HeadParts text item
@@ -451,9 +449,9 @@ served_there text item s =
       item_is = f.second.is;
       served = record { some_client = s.first.low; few_clients = s.first.high; from_one = q.first.low; fits = omega arith; below = omega arith; change = c.first.change; reply = f.first.reply; numbered = f.first.numbered };
       text_is = s.parts ∙ ap (λ (u : List ℕ). u ++ s.back) s.first.text_is ∙ ap (λ (u : List ℕ). to_be_bytes w32 s.value ++ u) (q.parts ∙ ap (λ (u : List ℕ). u ++ q.back) q.first.text_is
-        ∙ ap (λ (u : List ℕ). to_be_bytes w64 q.value ++ u) (p.parts ∙ ap (λ (u : List ℕ). u ++ p.back) p.first.text_is
-        ∙ ap (λ (u : List ℕ). to_be_bytes w32 p.value ++ u) (c.parts ∙ ap (λ (u : List ℕ). u ++ c.back) c.first.text_is
-        ∙ ap (λ (u : List ℕ). call_spelling c.value ++ u) (f.parts ∙ ap (λ (u : List ℕ). u ++ f.back) f.first.text_is ∙ ap (λ (u : List ℕ). final_spelling f.value ++ u) f.second.none ∙ append-nil (final_spelling f.value)))));
+          ∙ ap (λ (u : List ℕ). to_be_bytes w64 q.value ++ u) (p.parts ∙ ap (λ (u : List ℕ). u ++ p.back) p.first.text_is
+          ∙ ap (λ (u : List ℕ). to_be_bytes w32 p.value ++ u) (c.parts ∙ ap (λ (u : List ℕ). u ++ c.back) c.first.text_is
+          ∙ ap (λ (u : List ℕ). call_spelling c.value ++ u) (f.parts ∙ ap (λ (u : List ℕ). u ++ f.back) f.first.text_is ∙ ap (λ (u : List ℕ). final_spelling f.value ++ u) f.second.none ∙ append-nil (final_spelling f.value)))));
     }
 
 served_back : (text : List ℕ) (item : Record) → ServedText text item → ServedParts text item

@@ -1,5 +1,5 @@
 -- Records as bytes: which records have a spelling, and the one spelling of each. It knows no reader and no writer.
-use Rattle.std.specs.Prelude.{◌≡◌, ℕ, ◌+◌, ◌<◌, ◌≤◌, ◌^◌, List, [], ◌∷◌, ◌++◌, length, take, IsTrue}
+use Rattle.std.specs.Prelude.{◌≡◌, ℕ, ◌+◌, ◌<◌, ◌≤◌, ◌^◌, List, [], ◌∷◌, ◌++◌, length, take, Result, Err, IsTrue}
 use Rattle.std.specs.Int.{w16, w32, w64, to_be_bytes}
 use Rattle.mds_base.specs.declared.call.Call.{Call}
 use Rattle.mds_base.specs.declared.call.Call.TheVariants.{Create, Mkdir, Remove, Lookup, Setattr, Scan, Grab, Load, Link}
@@ -9,6 +9,8 @@ use Rattle.mds_base.specs.declared.reply.Reply.TheVariants.{Said}
 use Rattle.mds_base.specs.Name.{is_name}
 use Rattle.mds_base.specs.Entries.{Entries}
 use Rattle.mds_base.specs.PlainRules.{Allows}
+use Rattle.records.specs.declared.fault.RecordFault.{RecordFault}
+use Rattle.records.specs.declared.fault.RecordFault.TheVariants.{OutOfMemory}
 use Rattle.records.specs.declared.record.Record.{Record}
 use Rattle.records.specs.declared.record.Record.TheVariants.{Head, Opened, Served}
 
@@ -124,3 +126,8 @@ pub record IsBadAt (bytes : List ℕ) (place : ℕ) : Type 0 where
   pub within : place < length bytes
   pub before : IsBegun (take place bytes)
   pub after : (more : List ℕ) (item : Record) → Spells (take (place + 1) bytes ++ more) item → ⊥
+
+-- it is this answer, unless memory ran out
+abbrev pub GivesOrMemory : Result (Record × ℕ) RecordFault → Result (Record × ℕ) RecordFault → Type 0
+GivesOrMemory (Err OutOfMemory) wanted = Unit {0}
+GivesOrMemory answer wanted = answer ≡ wanted

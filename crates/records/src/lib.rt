@@ -12,8 +12,14 @@ mod handled;
 mod msg;
 mod reading;
 mod record;
+mod writing;
 
 pub use fault::RecordFault;
 pub use handled::Handled;
 pub use msg::{Msg, MsgList};
+pub use reading::{laws_of_spellings, read};
 pub use record::{Record, RecordList};
+pub use writing::write;
+
+#[cfg(test)]
+mod tests;

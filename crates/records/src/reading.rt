@@ -1,8 +1,10 @@
-ghost use Rattle.std.specs.Prelude.{◌≡◌, ◌≤◌, ◌<◌, ◌^◌, ◌-◌, [], length, IfOk, MatchOption, Ok};
+ghost use Rattle.std.specs.Prelude.{◌≡◌, ℕ, ◌≤◌, ◌<◌, ◌^◌, ◌-◌, List, [], ◌++◌, length, take, IfOk, IsErrOf, MatchOption};
+ghost use Rattle.records.specs.declared.record.Record.{Record};
 ghost use Rattle.records.specs.Faults.{Gives};
+ghost use Rattle.records.specs.Spelling.{Spells, IsBegun, IsBadAt, GivesOrMemory};
 ghost use Rattle.records.specs.Reading.{byte_among, number_at, from_foreign, text_at, name_at, call_after, call_at, tags_of, final_of, final_at, head_at, served_at, record_at};
 
-use crate::fault::{Fault, Stop};
+use crate::fault::{Fault, RecordFault, Stop};
 use crate::record::Record;
 use mds_base::{Call, Final, Name, NameFault};
 use std::alloc::Global;
@@ -209,3 +211,39 @@ fn record(alloc: Global, bytes: &[u8]) -> Result<(Record, &[u8]), Stop>
         _ => served(alloc, rest),
     }
 }
+
+/// The record whose spelling begins the bytes (`docs/FORMATS.md`, "Records"), and that spelling's length.
+///
+/// `Short` comes exactly where the bytes are a proper prefix of some spelling, and `Bad` exactly where they are
+/// neither that nor begin with a spelling, with the place of the first byte after which no spelling can follow.
+pub fn read(alloc: Global, bytes: &[u8]) -> Result<(Record, usize), RecordFault>
+    // What is read is spelled so.
+    ensures found { IfOk result (λ x. (x.1 ≤ length bytes.now) × Spells (take x.1 bytes.now) x.0) }
+
+    // What is spelled at the front is read, unless memory runs out.
+    ensures only { (len : ℕ) → (item : Record) → len ≤ length bytes.now → Spells (take len bytes.now) item → GivesOrMemory result (Ok (item, len)) }
+
+    // The faults, and when each of them comes.
+    ensures short { IsErrOf result RecordFault.Short → IsBegun bytes.now }
+    ensures short_only { IsBegun bytes.now → GivesOrMemory result (Err RecordFault.Short) }
+    ensures bad { (place : ℕ) → IsErrOf result (RecordFault.Bad place) → IsBadAt bytes.now place }
+    ensures bad_only { (place : ℕ) → IsBadAt bytes.now place → GivesOrMemory result (Err (RecordFault.Bad place)) }
+{
+    match record(alloc, bytes) {
+        Ok((item, rest)) => Ok((item, bytes.len() - rest.len())),
+        Err(Stop::Memory) => Err(RecordFault::OutOfMemory),
+        Err(Stop::Fault(Fault::Short)) => Err(RecordFault::Short),
+        Err(Stop::Fault(Fault::Bad(left))) => Err(RecordFault::Bad {
+            place: (bytes.len() - left) as u64,
+        }),
+    }
+}
+
+/// The laws of the spellings of records (`docs/DEFINITIONS.md`, "Spelling"), for all records.
+pub fn laws_of_spellings()
+    // A record that has a spelling has one.
+    ensures one { (a b : List ℕ) → (item : Record) → Spells a item → Spells b item → a ≡ b }
+
+    // Bytes spell one record, and no spelling is a proper prefix of another.
+    ensures no_prefix { (bytes more : List ℕ) → (a b : Record) → Spells bytes a → Spells (bytes ++ more) b → (more ≡ []) × (a ≡ b) }
+{}

@@ -1,6 +1,6 @@
-use Rattle.std.proofs.Common.{arith, ◌<◌, ◌^◌, ◌-◌, ◌≡◌, ◌∙◌, get_or, drop}
+use Rattle.std.proofs.Common.{arith}
 use Rattle.records.proofs.Fields.{number_reads}
-use Rattle.records.proofs.Numbers.{weight_pos, fewer_bytes, has_room, numbers_begin, no_byte, no_number, one_byte, numbers_end, weight_fits, leads_on, leads_off_low, leads_off_high}
+use Rattle.records.proofs.Numbers.{weight_pos, has_room, numbers_begin, no_byte, no_number, one_byte, numbers_end, weight_fits, leads_on, leads_off_low, leads_off_high}
 use Rattle.records.proofs.reading.number.Goals as goal
 use Rattle.records.proofs.reading.number.Goals.{then-value-least-via-then-value-least, then-value-least-via-else-value-least+then-most-weight}
 

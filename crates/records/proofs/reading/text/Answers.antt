@@ -1,4 +1,4 @@
-use Rattle.std.proofs.Common.{◌≡◌, ◌∙◌, sym, ap, Err, List, ℕ, [], true, false, take, length, arith}
+use Rattle.std.proofs.Common.{◌≡◌, ◌∙◌, sym, ap, Err, List, ℕ, true, false, take, length, arith}
 use Rattle.std.proofs.lemmas.List.{length-take}
 use Rattle.mds_base.specs.declared.name.NameFault.{NameFault}
 use Rattle.mds_base.specs.Name.{is_name}
