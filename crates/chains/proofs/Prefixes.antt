@@ -12,6 +12,9 @@ use Rattle.chains.proofs.Remainders.{mod_below, mod_under, mod_rises, mod_step}
 pub on_chain : (r h d : ℕ) → d ≤ r → OnChain r h (h % 2 ^ d)
 on_chain r h d le = record { depth = d; within = le; remainder = refl }
 
+pub chain_below : {r h x : ℕ} → OnChain r h x → x < 2 ^ r
+chain_below {r} {h} on = omega (arith, on.remainder, mod_rises h on.depth r on.within, mod_below h r)
+
 -- a set that has an element of the chain has those at lower depths
 front : {r : ℕ} {b : ℕ → Bool} → IsWellFormed r b → (h i k : ℕ) → IsTrue (b (h % 2 ^ (k + i))) → IsTrue (b (h % 2 ^ i))
 front {r} {b} f h i zero has = subst (λ (d : ℕ). IsTrue (b (h % 2 ^ d))) (omega arith) has

@@ -14,7 +14,7 @@ use Rattle.chains.proofs.Remainders.{mod_below, one_more}
 use Rattle.chains.proofs.Prefixes.{located_has}
 use Rattle.chains.proofs.Depths.{depth_least, located_to_range, range_to_located, located_active}
 
-reversed_none : (n : ℕ) → reversed 0 n ≡ 0
+pub reversed_none : (n : ℕ) → reversed 0 n ≡ 0
 unfolding reversed
 reversed_none n = refl
 
@@ -122,7 +122,7 @@ range_interval w d p h le lt =
           sym (reversed_reversed d h) ∙ (ap (reversed d) (sym same) ∙ reversed_back d p lt),
     )
 
-half : (w d : ℕ) → d < w → 2 ^ (w - d) ≡ 2 ^ (w - suc d) * 2
+pub half : (w d : ℕ) → d < w → 2 ^ (w - d) ≡ 2 ^ (w - suc d) * 2
 half w d lt =
     let e : suc (w - suc d) ≡ w - d = omega arith in
     ap (λ k. 2 ^ k) (sym e) ∙ pow-suc 2 (w - suc d)

@@ -13,6 +13,8 @@ pub fn laws_of_chains()
     ensures set_bit { (radix hash : ℕ) → bit_at hash radix ≡ 1
         → chain_of (suc radix) hash ≡ chain_of radix hash ++ (hash % 2 ^ radix + 2 ^ radix) ∷ [] }
 
+    ensures below { (radix hash part : ℕ) → OnChain radix hash part → part < 2 ^ radix }
+
     // A child is on the chain exactly where the hash is in its range.
     ensures range { (radix hash part depth : ℕ) → depth < radix → part < 2 ^ depth
         → OnChain radix hash (part + 2 ^ depth) ↔ (hash % 2 ^ suc depth ≡ part + 2 ^ depth) }

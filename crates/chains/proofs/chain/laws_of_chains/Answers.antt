@@ -1,5 +1,5 @@
 use Rattle.chains.proofs.Lists.{chain_rising, chain_contains, chain_unset, chain_set, last_is, next_is}
-use Rattle.chains.proofs.Prefixes.{chain_to_range, range_to_chain, range_parent}
+use Rattle.chains.proofs.Prefixes.{chain_below, chain_to_range, range_to_chain, range_parent}
 use Rattle.chains.proofs.chain.laws_of_chains.Goals as goal
 
 pub returns-clause-rising : goal.returns-clause-rising
@@ -25,3 +25,6 @@ returns-clause-last c = λ radix hash part is. last_is part is
 
 pub returns-clause-next : goal.returns-clause-next
 returns-clause-next c = λ radix hash part depth deep here more. next_is hash part depth deep here more
+
+pub returns-clause-below : goal.returns-clause-below
+returns-clause-below c radix hash part = chain_below
