@@ -2,7 +2,7 @@ ghost use Rattle.std.specs.Prelude.{◌≡◌, ℕ, ◌==◌, ◌↔◌, List, I
 ghost use Rattle.std.specs.FinSet as set;
 ghost use Rattle.chains.specs.WellFormed.{with_number, union_of};
 ghost use Rattle.bitmap.specs.Bits.{Bits, has, is_same};
-ghost use Rattle.bitmap.specs.Words.{IsWhole, set_of, words_of};
+ghost use Rattle.bitmap.specs.Words.{IsWhole, bit_of, set_of, words_of};
 
 /// The laws of bitmaps as finite sets (`docs/DEFINITIONS.md`, "Well-formed bitmap"): the sets that calls make, as
 /// tests of numbers, and the words that spell a set.
@@ -13,7 +13,8 @@ pub fn laws_of_bitmaps()
     ensures same { (a b : Bits) → has a ≡ has b → a ≡ b }
     ensures equals { (a b : Bits) → IsTrue (is_same a b) ↔ (a ≡ b) }
 
-    // Words and sets give each other back.
+    // Words spell the set of the bits that are set, and words and sets give each other back.
+    ensures bits { (words : List ℕ) → has (set_of words) ≡ bit_of words }
     ensures words_back { (words : List ℕ) → IsWhole words → words_of (set_of words) ≡ words }
     ensures one_spelling { (v w : List ℕ) → IsWhole v → IsWhole w → set_of v ≡ set_of w → v ≡ w }
 {}

@@ -1,5 +1,5 @@
 use Rattle.bitmap.specs.BitSetLaws.{has_zero, has_with, has_union, same_bits, same_from_test, test_from_same}
-use Rattle.bitmap.specs.WordLaws.{words_back, words_same}
+use Rattle.bitmap.specs.WordLaws.{has_set, words_back, words_same}
 use Rattle.bitmap.proofs.laws.laws_of_bitmaps.Goals as goal
 
 pub returns-clause-zero : goal.returns-clause-zero
@@ -22,3 +22,6 @@ returns-clause-words_back c = words_back
 
 pub returns-clause-one_spelling : goal.returns-clause-one_spelling
 returns-clause-one_spelling c = words_same
+
+pub returns-clause-bits : goal.returns-clause-bits
+returns-clause-bits c = has_set
