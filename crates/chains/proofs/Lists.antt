@@ -110,6 +110,15 @@ chain_rising (suc r) h =
           omega (arith, on.remainder, mod_rises h on.depth r on.within, pow_pos r)))
     ]
 
+pub chain_length : (r h : ℕ) → length (chain_of r h) ≤ r + 1
+chain_length zero h = omega (arith, ap length (chain_none h))
+chain_length (suc r) h =
+    elim (mod_step h r) [
+      | inl w ↦ omega (arith, ap length (chain_unset r h w.0), chain_length r h)
+      | inr w ↦
+          omega (arith, ap length (chain_set r h w.0), length_push (chain_of r h) (h % 2 ^ r + 2 ^ r), chain_length r h)
+    ]
+
 -- ---- one element after another
 
 pub last_is : {r h : ℕ} (part : ℕ) → h % 2 ^ r ≡ part → IsLastOnChain r h part

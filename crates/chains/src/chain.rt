@@ -1,4 +1,4 @@
-ghost use Rattle.std.specs.Prelude.{◌≡◌, ℕ, suc, ◌+◌, ◌%◌, ◌^◌, ◌<◌, ◌≤◌, ◌↔◌, [], ◌∷◌, ◌++◌};
+ghost use Rattle.std.specs.Prelude.{◌≡◌, ℕ, suc, ◌+◌, ◌%◌, ◌^◌, ◌<◌, ◌≤◌, ◌↔◌, length, [], ◌∷◌, ◌++◌};
 ghost use Rattle.std.specs.Int.{bit_at};
 ghost use Rattle.std.specs.List.{Contains};
 ghost use Rattle.std.specs.List.Sorted.{IsStrictlyIncreasing};
@@ -9,6 +9,7 @@ pub fn laws_of_chains()
     // The list is the rising list of the remainders, and so also that of the sums of set bits.
     ensures rising { (radix hash : ℕ) → IsStrictlyIncreasing (chain_of radix hash) }
     ensures elements { (radix hash part : ℕ) → Contains (chain_of radix hash) part ↔ OnChain radix hash part }
+    ensures count { (radix hash : ℕ) → length (chain_of radix hash) ≤ radix + 1 }
     ensures unset_bit { (radix hash : ℕ) → bit_at hash radix ≡ 0 → chain_of (suc radix) hash ≡ chain_of radix hash }
     ensures set_bit { (radix hash : ℕ) → bit_at hash radix ≡ 1
         → chain_of (suc radix) hash ≡ chain_of radix hash ++ (hash % 2 ^ radix + 2 ^ radix) ∷ [] }

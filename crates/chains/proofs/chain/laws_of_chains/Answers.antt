@@ -1,4 +1,4 @@
-use Rattle.chains.proofs.Lists.{chain_rising, chain_contains, chain_unset, chain_set, last_is, next_is}
+use Rattle.chains.proofs.Lists.{chain_rising, chain_contains, chain_length, chain_unset, chain_set, last_is, next_is}
 use Rattle.chains.proofs.Prefixes.{chain_below, chain_to_range, range_to_chain, range_parent}
 use Rattle.chains.proofs.chain.laws_of_chains.Goals as goal
 
@@ -28,3 +28,6 @@ returns-clause-next c = λ radix hash part depth deep here more. next_is hash pa
 
 pub returns-clause-below : goal.returns-clause-below
 returns-clause-below c radix hash part = chain_below
+
+pub returns-clause-count : goal.returns-clause-count
+returns-clause-count c = chain_length
