@@ -1,26 +1,26 @@
 -- What the calls of a bitmap do to the set that it stands for.
-use Rattle.std.proofs.Common.{◌≡◌, ℕ, zero, suc, ◌+◌, ◌-◌, ◌*◌, ◌/◌, ◌%◌, ◌^◌, ◌<◌, ◌≤◌, ◌⊎◌, ◌↔◌, ◌==◌, ◌&&◌, ◌||◌, nat_lt, inl, inr, Bool, true, false, IsTrue, List, length, slice_index, get_or, replicate, sym, refl, ap, ap₂, ◌∙◌, subst, arith, pow-suc, pow_pos, pow_mono, lit<, lit≤, w32}
+use Rattle.std.proofs.Common.{◌≡◌, ℕ, zero, suc, ◌+◌, ◌-◌, ◌*◌, ◌/◌, ◌%◌, ◌^◌, ◌<◌, ◌≤◌, ◌⊎◌, ◌↔◌, ◌==◌, ◌&&◌, ◌||◌, nat_lt, inl, inr, Bool, true, false, IsTrue, List, slice_index, get_or, replicate, sym, refl, ap, ap₂, ◌∙◌, subst, arith, pow-suc, pow_pos, pow_mono, w32}
 use Rattle.std.proofs.Math.Path.{fun_ext}
 use Rattle.std.specs.FinSet as set
 use Rattle.std.specs.Ordering.{nat_cmp}
 use Rattle.std.specs.Int.{bit_at, leading_zeros}
 use Rattle.std.proofs.Math.Nat.{mod-one}
-use Rattle.std.proofs.lemmas.Bool.{true≢false, cases_Bool, cases_lt, cases_eq, eq-eqb, eqb-true, ne_eqb}
+use Rattle.std.proofs.lemmas.Bool.{true≢false, cases_Bool, cases_lt, cases_eq, eq-eqb, ne_eqb}
 use Rattle.std.proofs.lemmas.Nat.{leading_length}
 use Rattle.std.proofs.lemmas.Nat.Bits.{ones_shr, bit_at-zero}
 use Rattle.chains.specs.Chain.{OnChain, IsLastOnChain, IsNextOnChain}
-use Rattle.chains.specs.WellFormed.{IsWellFormed, IsWithin, with_number, union_of, IsMissing, IsLeastMissing, IsRequiredBy}
+use Rattle.chains.specs.WellFormed.{IsWellFormed, with_number, IsMissing, IsLeastMissing, IsRequiredBy}
 use Rattle.chains.specs.Located.{located, IsLocated}
 use Rattle.chains.specs.Depth.{depth_of, IsDepth, HasChildrenBelow}
-use Rattle.chains.specs.Reversed.{reversed, first_of, last_of, IsInSpan}
-use Rattle.chains.proofs.Prefixes.{chain_prefix, located_greatest, located_at, locate_above, located_on, located_has, locate_grows}
-use Rattle.chains.proofs.Sets.{root_formed, formed_misses, union_formed, union_has_first, with_formed, missing_with, required_missing, with_has, formed_from}
+use Rattle.chains.specs.Reversed.{reversed, last_of}
+use Rattle.chains.proofs.Prefixes.{chain_prefix, located_greatest, located_at, locate_grows}
+use Rattle.chains.proofs.Sets.{root_formed, union_formed, union_has_first, with_formed, missing_with, required_missing, formed_from}
 use Rattle.chains.proofs.Depths.{depth_is, depth_least, depth_before, depth_add_parent, depth_add_child, range_is_located}
-use Rattle.chains.proofs.Reversals.{range_interval, reversed_child, span_halves, span_fits, half}
+use Rattle.chains.proofs.Reversals.{range_interval, span_halves, span_fits}
 use Rattle.bitmap.specs.Bits.{Bits, has, IsLeastLacking}
 use Rattle.bitmap.specs.Span.{range_of, IsInside, IsHalved, SplitsAt}
 use Rattle.bitmap.specs.declared.span.Span.{Span}
-use Rattle.bitmap.specs.Words.{word_count, word_bits, IsWhole, set_of, words_of, bit_of, IsBitmap}
+use Rattle.bitmap.specs.Words.{word_count, word_bits, IsWhole, set_of, bit_of, IsBitmap}
 use Rattle.bitmap.specs.BitSetLaws.{has_with, has_union, has_zero, same_bits}
 use Rattle.bitmap.specs.WordLaws.{has_set, bit_below}
 

@@ -1,13 +1,13 @@
 -- What reads and writes of words do to the set that they spell.
-use Rattle.std.proofs.Common.{◌≡◌, ℕ, zero, suc, ◌+◌, ◌-◌, ◌*◌, ◌/◌, ◌%◌, ◌^◌, ◌<◌, ◌≤◌, ◌⊎◌, ◌==◌, ◌&&◌, ◌||◌, nat_eq, nat_lt, inl, inr, Bool, true, false, IsTrue, cond, List, length, slice_index, get_or, set as put, bit_and, bit_or, max, sym, refl, ap, ap₂, ◌∙◌, subst, arith, pow-suc, pow_pos, mod-lt, lit<, get_or-set_other, get_or-set_same, length-set, pow_mono}
+use Rattle.std.proofs.Common.{◌≡◌, ℕ, zero, suc, ◌*◌, ◌/◌, ◌%◌, ◌^◌, ◌<◌, ◌≤◌, ◌==◌, ◌&&◌, ◌||◌, nat_eq, nat_lt, inl, inr, Bool, false, List, length, slice_index, get_or, set as put, bit_and, bit_or, max, sym, refl, ap, ap₂, ◌∙◌, subst, arith, pow_pos, mod-lt, lit<, get_or-set_other, get_or-set_same, length-set, pow_mono}
 use Rattle.std.proofs.lemmas.List.{get_or_past}
 use Rattle.std.specs.FinSet as set
 use Rattle.std.specs.Int.{bit_at}
-use Rattle.std.proofs.lemmas.Bool.{true≢false, cases_Bool, cases_lt, cases_eq, lt-ltb, le-ltb, ltb-true, ltb-false, eqb-true, eqb-false, eq-eqb, ne_eqb, and_parts, and_from}
-use Rattle.std.proofs.lemmas.Nat.{mod_below, or_lt, one_shl, div_below}
+use Rattle.std.proofs.lemmas.Bool.{cases_lt, cases_eq, lt-ltb, le-ltb, eq-eqb, ne_eqb}
+use Rattle.std.proofs.lemmas.Nat.{mod_below, or_lt, div_below}
 use Rattle.std.proofs.lemmas.Nat.Bits.{bit_at-lt, bit_at_or, bit_at_set_same, bit_at_set_other, shr_and_one}
-use Rattle.chains.specs.WellFormed.{with_number, union_of, IsRequired, IsMissing, IsLeastMissing}
-use Rattle.bitmap.specs.Bits.{Bits, has}
+use Rattle.chains.specs.WellFormed.{with_number, union_of, IsRequired, IsMissing}
+use Rattle.bitmap.specs.Bits.{has}
 use Rattle.bitmap.specs.Words.{word_count, word_bits, word_width, IsWhole, bit_of, set_of}
 use Rattle.bitmap.specs.BitSetLaws.{has_with, has_union, same_bits}
 use Rattle.bitmap.specs.WordLaws.{has_set, has_set_at}

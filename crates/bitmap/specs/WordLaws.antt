@@ -1,16 +1,15 @@
 -- Words and the sets that they spell: the laws by which a bitmap gives its words back.
-use Rattle.std.proofs.Common.{◌≡◌, ℕ, zero, suc, ◌+◌, ◌-◌, ◌*◌, ◌/◌, ◌%◌, ◌^◌, ◌<◌, ◌≤◌, ◌⊎◌, ◌==◌, ◌&&◌, ◌||◌, nat_eq, nat_lt, inl, inr, Bool, true, false, IsTrue, cond, List, map, length, slice_index, get_or, sym, refl, ap, ◌∙◌, subst, arith, pow-suc, pow_pos, mod-lt, lit<}
+use Rattle.std.proofs.Common.{◌≡◌, ℕ, zero, suc, ◌+◌, ◌-◌, ◌*◌, ◌/◌, ◌%◌, ◌^◌, ◌<◌, ◌⊎◌, ◌==◌, ◌&&◌, ◌||◌, nat_eq, nat_lt, inl, inr, Bool, true, false, IsTrue, cond, List, map, slice_index, sym, refl, ap, ◌∙◌, arith, pow-suc}
 use Rattle.std.proofs.Math.Path.{fun_ext}
 use Rattle.std.specs.FinSet as set
 use Rattle.std.specs.List.{range_with_len}
 use Rattle.std.specs.Ordering.{nat_cmp}
 use Rattle.std.specs.Int.{bit_at}
-use Rattle.std.proofs.lemmas.Bool.{true≢false, cases_Bool, cases_lt, cases_eq, lt-ltb, le-ltb, ltb-true, eqb-true, eqb-false, eq-eqb, ne_eqb, and_parts, and_from}
+use Rattle.std.proofs.lemmas.Bool.{cases_Bool, cases_lt, cases_eq, lt-ltb, le-ltb, ltb-true, eq-eqb, ne_eqb, and_parts, and_from}
 use Rattle.std.proofs.lemmas.List.{ext_get_or}
 use Rattle.std.proofs.lemmas.List.FromFn.{get_or-map-range_with_len, length-map-range_with_len}
-use Rattle.std.proofs.lemmas.Nat.{mod_below, div-mul-add, mod-mul-add}
+use Rattle.std.proofs.lemmas.Nat.{div-mul-add, mod-mul-add}
 use Rattle.std.proofs.lemmas.Nat.Bits.{bit_at-lt, same_from_bits_below, bit_at_cat_low, bit_at_cat_high}
-use Rattle.chains.specs.WellFormed.{with_number, union_of}
 use Rattle.std.specs.Cmp.Lexicographic.{pointwise, bytes_decides}
 use Rattle.bitmap.specs.Bits.{Bits, has, is_same}
 use Rattle.bitmap.specs.Words.{word_count, word_bits, IsWhole, bit_of, passing, set_of, number_of, words_of}

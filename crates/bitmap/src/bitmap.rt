@@ -5,7 +5,7 @@ ghost use Rattle.chains.specs.WellFormed.{IsWellFormed, IsLeastMissing};
 ghost use Rattle.chains.specs.Located.{located, IsLocated};
 ghost use Rattle.chains.specs.Depth.{depth_of, IsDepth};
 ghost use Rattle.chains.specs.Reversed.{reversed};
-ghost use Rattle.bitmap.specs.Bits.{has};
+ghost use Rattle.bitmap.specs.Bits.{has, is_same};
 ghost use Rattle.bitmap.specs.Span.{range_of, IsInside, IsHalved, SplitsAt};
 ghost use Rattle.bitmap.specs.Words.{set_of, words_of};
 
@@ -53,7 +53,10 @@ impl PartialEq for Bitmap {
 
     ghost laws = { is_same_partial };
 
-    fn eq(&self, other: &Bitmap) -> bool {
+    fn eq(&self, other: &Bitmap) -> bool
+        ensures value { result ≡ is_same self.now other.now }
+        ensures same { IsTrue result ↔ (self.now ≡ other.now) }
+    {
         self.words == other.words
     }
 }

@@ -1,6 +1,6 @@
-use Rattle.std.proofs.Common.{◌≡◌, refl, sym, ap, ◌∙◌, ◌+◌, ◌^◌, ◌<◌, ℕ, subst, arith, Bool, false}
+use Rattle.std.proofs.Common.{refl, sym, ap, ◌∙◌, ◌+◌, arith}
 use Rattle.mds_base.specs.declared.TheConstants.{RADIX}
-use Rattle.chains.specs.Depth.{IsDepth, depth_of}
+use Rattle.chains.specs.Depth.{IsDepth}
 use Rattle.chains.proofs.Depths.{depth_is}
 use Rattle.bitmap.specs.Bits.{has}
 use Rattle.bitmap.specs.Words.{set_of}

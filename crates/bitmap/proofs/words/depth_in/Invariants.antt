@@ -1,4 +1,4 @@
-use Rattle.std.proofs.Common.{ℕ, ◌+◌, ◌-◌, ◌^◌, ◌<◌, ◌≤◌, IsTrue}
+use Rattle.std.proofs.Common.{◌-◌, ◌^◌, ◌<◌, ◌≤◌}
 use Rattle.mds_base.specs.declared.TheConstants.{RADIX}
 use Rattle.chains.specs.Depth.{HasChildrenBelow}
 use Rattle.bitmap.specs.Bits.{has}

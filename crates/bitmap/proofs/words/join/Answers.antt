@@ -1,4 +1,4 @@
-use Rattle.std.proofs.Common.{ℕ, arith}
+use Rattle.std.proofs.Common.{arith}
 use Rattle.bitmap.proofs.Edits.{set_joined, whole_joined}
 use Rattle.bitmap.proofs.words.join.Goals as goal
 

@@ -1,9 +1,8 @@
-use Rattle.std.proofs.Common.{◌≡◌, ◌+◌, ◌^◌, ◌<◌, ℕ, refl, sym, ap, ◌∙◌, subst, lit≤, Bool, true, false}
+use Rattle.std.proofs.Common.{◌+◌, ◌^◌, ◌<◌, ℕ, refl, sym, ap, ◌∙◌, subst, lit≤}
 use Rattle.std.specs.FinSet as set
 use Rattle.std.proofs.lemmas.Bool.{false≢true}
 use Rattle.mds_base.specs.declared.TheConstants.{RADIX}
-use Rattle.bitmap.specs.Bits.{Bits}
-use Rattle.bitmap.specs.Words.{set_of, IsBitmap}
+use Rattle.bitmap.specs.Words.{set_of}
 use Rattle.bitmap.proofs.Bitmaps.{refused, refused_least, Adds, adds, adds_formed, adds_stays, adds_splits, adds_halves, grown_formed, child_below}
 use Rattle.bitmap.proofs.bitmap.Bitmap.add_child.Goals as goal
 

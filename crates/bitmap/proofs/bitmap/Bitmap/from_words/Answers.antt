@@ -1,8 +1,6 @@
-use Rattle.std.proofs.Common.{◌≡◌, refl, lit≤, Bool, true, false}
+use Rattle.std.proofs.Common.{refl, lit≤}
 use Rattle.std.proofs.lemmas.Bool.{false≢true}
-use Rattle.mds_base.specs.declared.TheConstants.{RADIX}
 use Rattle.chains.proofs.Sets.{formed_misses}
-use Rattle.bitmap.specs.Words.{IsWhole, IsBitmap}
 use Rattle.bitmap.proofs.Bitmaps.{spelled_formed}
 use Rattle.bitmap.specs.WordLaws.{words_back}
 use Rattle.bitmap.proofs.bitmap.Bitmap.from_words.Goals as goal

@@ -1,9 +1,8 @@
-use Rattle.std.proofs.Common.{ap, ap₂, sym, ◌∙◌, subst, subst₂}
-use Rattle.std.specs.FinSet as set
+use Rattle.std.proofs.Common.{sym, subst}
 use Rattle.mds_base.specs.declared.TheConstants.{RADIX}
 use Rattle.chains.specs.WellFormed.{IsWellFormed}
 use Rattle.bitmap.specs.Bits.{Bits, has}
-use Rattle.bitmap.specs.Words.{set_of, IsBitmap}
+use Rattle.bitmap.specs.Words.{set_of}
 use Rattle.bitmap.proofs.Bitmaps.{union_stays_formed, union_grows_at}
 use Rattle.bitmap.proofs.bitmap.Bitmap.merge.Goals as goal
 

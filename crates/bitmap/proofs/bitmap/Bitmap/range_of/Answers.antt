@@ -3,7 +3,7 @@ use Rattle.mds_base.specs.declared.TheConstants.{RADIX}
 use Rattle.chains.specs.WellFormed.{IsWellFormed}
 use Rattle.chains.specs.Located.{located}
 use Rattle.chains.specs.Depth.{depth_of}
-use Rattle.chains.specs.Reversed.{reversed, last_of}
+use Rattle.chains.specs.Reversed.{reversed}
 use Rattle.bitmap.specs.Bits.{Bits, has}
 use Rattle.bitmap.specs.Span.{range_of, IsInside}
 use Rattle.bitmap.specs.Words.{set_of}
