@@ -1,6 +1,7 @@
 ghost use Rattle.std.specs.Prelude.{◌≡◌, ◌++◌, ◌∷◌, [], IfOk, OnOk, OnErr};
 
-use mds_base::{Ask, Cursor, Reply};
+use bitmap::Bitmap;
+use mds_base::{Ask, Cursor, Reply, RowList, SessionList};
 use std::alloc::{AllocError, Global};
 use std::marker::Model;
 
@@ -12,6 +13,14 @@ pub enum Msg {
         server: u32,
         ask: Ask,
         cursor: Option<Cursor>,
+    },
+    /// The partition that the server locates lies elsewhere: the client is to merge the bitmap of the directory.
+    Redirect {
+        client: u32,
+        seq: u64,
+        attempt: u32,
+        dir: u64,
+        bitmap: Bitmap,
     },
     /// A server answers a call of a client.
     Answer {
@@ -34,6 +43,18 @@ pub enum Msg {
         seq: u64,
         attempt: u32,
         until: u64,
+    },
+    /// The source of a split sends the moving half of a partition of this depth to the server of the child: the
+    /// bitmap of the directory, the sessions of the partition, the greatest of its floor and lease ends, and the rows.
+    Transfer {
+        server: u32,
+        dir: u64,
+        part: u32,
+        depth: u32,
+        bitmap: Bitmap,
+        sessions: SessionList,
+        top: u64,
+        rows: RowList,
     },
     /// A server tells the source of a transfer that the child is kept.
     Installed {
@@ -58,6 +79,19 @@ impl Msg {
                 server: *server,
                 ask: ask.copy(alloc)?,
                 cursor: copy_of_cursor(alloc, cursor)?,
+            },
+            Msg::Redirect {
+                client,
+                seq,
+                attempt,
+                dir,
+                bitmap,
+            } => Msg::Redirect {
+                client: *client,
+                seq: *seq,
+                attempt: *attempt,
+                dir: *dir,
+                bitmap: *bitmap,
             },
             Msg::Answer {
                 client,
@@ -93,6 +127,25 @@ impl Msg {
                 seq: *seq,
                 attempt: *attempt,
                 until: *until,
+            },
+            Msg::Transfer {
+                server,
+                dir,
+                part,
+                depth,
+                bitmap,
+                sessions,
+                top,
+                rows,
+            } => Msg::Transfer {
+                server: *server,
+                dir: *dir,
+                part: *part,
+                depth: *depth,
+                bitmap: *bitmap,
+                sessions: sessions.copy(alloc)?,
+                top: *top,
+                rows: rows.copy(alloc)?,
             },
             Msg::Installed {
                 server,

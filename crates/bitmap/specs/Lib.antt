@@ -1,0 +1,10 @@
+pub mod BitSetLaws
+pub mod Bits
+pub mod Span
+pub mod WordLaws
+pub mod Words
+pub use Rattle.chains.specs.Chain
+pub use Rattle.chains.specs.Depth
+pub use Rattle.chains.specs.Located
+pub use Rattle.chains.specs.Reversed
+pub use Rattle.chains.specs.WellFormed

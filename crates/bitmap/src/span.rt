@@ -1,0 +1,9 @@
+/// A range of partitions' hashes, reversed: all places from `first` to `last` (`docs/DEFINITIONS.md`, "Reversed
+/// hash").
+#[derive(Debug, Clone, Copy, PartialEq, Eq)]
+pub struct Span {
+    /// The least reversed hash of the range.
+    pub first: u64,
+    /// The greatest reversed hash of the range.
+    pub last: u64,
+}

@@ -1,0 +1,5 @@
+pub mod Chain
+pub mod Depth
+pub mod Located
+pub mod Reversed
+pub mod WellFormed

@@ -1,0 +1,93 @@
+//! Reads the next line of a script.
+ghost use Rattle.std.specs.Prelude.{◌≡◌, [], IfOk, IfErr, OnOk};
+ghost use Rattle.std.specs.Io.KnownBytes.{Appends};
+ghost use Rattle.mds_out.specs.Fault.{HasCause};
+ghost use Rattle.mds_out.specs.Stream.{TakesFront};
+ghost use Rattle.mds_cli.specs.Streams.{streams, ReadsLine, StopsLine};
+
+use crate::reader::{Part, Reader};
+use mds_out::{Failed, Sink, Source, write_whole};
+use std::alloc::AllocError;
+
+/// How a line was found.
+#[derive(Clone, Copy)]
+pub(crate) enum Line {
+    /// With its line feed.
+    Ended,
+    /// Without one, at the end of the input.
+    Last,
+    /// There was none left.
+    None,
+}
+
+/// Why no line was found.
+#[derive(Clone, Copy)]
+pub(crate) enum Stop {
+    /// The line is longer than a line may be.
+    TooLong,
+    /// The source failed.
+    ReadFault,
+    /// The sink failed.
+    WriteFault,
+    /// There was no memory for the line.
+    OutOfMemory,
+}
+
+impl From<AllocError> for Stop {
+    ghost use Rattle.mds_cli.specs.declared.line.Stop.{Stop};
+
+    ghost from_gives = { λ _ stop. stop ≡ Stop.OutOfMemory };
+
+    fn from(_: AllocError) -> Stop {
+        Stop::OutOfMemory
+    }
+}
+
+/// Reads the next line into `line`, without its line feed. Before each read of the source what is pending is written,
+/// so that nobody waits for an answer that is made.
+pub(crate) fn next_line<S: Source, K: Sink>(
+    reader: &mut Reader,
+    line: &mut Vec<u8>,
+    pending: &mut Vec<u8>,
+    input: &mut S,
+    output: &mut K,
+) -> Result<Line, Stop>
+    ensures ok { IfOk result (λ found. ReadsLine found
+        (streams reader.old (S.left input.old) (K.taken output.old) pending.old.items (S.faults input.old) (K.faults output.old))
+        (streams reader.new (S.left input.new) (K.taken output.new) pending.new.items (S.faults input.new) (K.faults output.new))
+        line.new.items) }
+    ensures err { IfErr result (λ stop. StopsLine stop
+        (streams reader.old (S.left input.old) (K.taken output.old) pending.old.items (S.faults input.old) (K.faults output.old))
+        (streams reader.new (S.left input.new) (K.taken output.new) pending.new.items (S.faults input.new) (K.faults output.new))) }
+{
+    line.clear();
+    'parts: loop {
+        match reader.take_part(line)? {
+            Part::Ended => return Ok(Line::Ended),
+            Part::TooLong => return Err(Stop::TooLong),
+            Part::Open => {}
+        }
+        match flush(pending, output) {
+            Ok(()) => {}
+            Err(Failed) => return Err(Stop::WriteFault),
+        }
+        match reader.fill(input) {
+            Ok(true) => {}
+            Ok(false) if line.is_empty() => return Ok(Line::None),
+            Ok(false) => return Ok(Line::Last),
+            Err(Failed) => return Err(Stop::ReadFault),
+        }
+    }
+}
+
+/// Writes what is pending. Where the sink fails it has taken a front of it.
+pub(crate) fn flush<K: Sink>(pending: &mut Vec<u8>, output: &mut K) -> Result<(), Failed>
+    ensures whole { OnOk result (Appends (K.taken output.old) (K.taken output.new) pending.old.items) }
+    ensures none { OnOk result (pending.new.items ≡ []) }
+    ensures front { TakesFront (K.taken output.old) (K.taken output.new) pending.old.items }
+    ensures cause { HasCause (K.faults output.old) (K.faults output.new) result }
+{
+    write_whole(output, pending)?;
+    pending.clear();
+    Ok(())
+}
