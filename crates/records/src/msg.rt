@@ -183,8 +183,12 @@ pub struct MsgList {
 impl Model for MsgList {
     ghost use Rattle.std.specs.Prelude.{List};
     ghost use Rattle.records.specs.declared.msg.Msg.{Msg};
+    ghost use Rattle.std.specs.Coded.{codes};
+    ghost use Rattle.bitmap.specs.Bits.{coded_bits};
 
     ghost Value = { List Msg };
+
+    ghost coded = { Prim.hlevel (codes, coded_bits) };
 
     ghost view = { λ a. a.messages.items };
 }
