@@ -1,0 +1,133 @@
+-- Records as bytes: which records have a spelling, and the one spelling of each. It knows no reader and no writer.
+use Rattle.std.specs.Prelude.{◌≡◌, ℕ, ◌+◌, ◌<◌, ◌≤◌, ◌^◌, List, [], ◌∷◌, ◌++◌, length, take, Result, Err, IsTrue}
+use Rattle.std.specs.Int.{w16, w32, w64, to_be_bytes}
+use Rattle.mds_base.specs.declared.call.Call.{Call}
+use Rattle.mds_base.specs.declared.call.Call.TheVariants.{Create, Mkdir, Remove, Lookup, Setattr, Scan, Grab, Load, Link}
+use Rattle.mds_base.specs.declared.reply.Final.{Final}
+use Rattle.mds_base.specs.declared.reply.Final.TheVariants.{Created, CreatedDir, Exists, Removed, Missing, IsDir, Set, Ids, Loaded, Stale}
+use Rattle.mds_base.specs.declared.reply.Reply.TheVariants.{Said}
+use Rattle.mds_base.specs.Name.{is_name}
+use Rattle.mds_base.specs.Entries.{Entries}
+use Rattle.mds_base.specs.PlainRules.{Allows}
+use Rattle.records.specs.declared.fault.RecordFault.{RecordFault}
+use Rattle.records.specs.declared.fault.RecordFault.TheVariants.{OutOfMemory}
+use Rattle.records.specs.declared.record.Record.{Record}
+use Rattle.records.specs.declared.record.Record.TheVariants.{Head, Opened, Served}
+
+-- ---- what has a spelling
+
+-- a directory number
+abbrev pub IsDirectory : ℕ → Type 0
+IsDirectory dir = (1 ≤ dir) × (dir < 2 ^ 48)
+
+-- a call that a log keeps
+abbrev pub IsChange : Call → Type 0
+IsChange (Create dir name) = IsDirectory dir × IsTrue (is_name name)
+IsChange (Mkdir dir name) = IsDirectory dir × IsTrue (is_name name)
+IsChange (Remove dir name) = IsDirectory dir × IsTrue (is_name name)
+IsChange (Setattr dir name mode size) = IsDirectory dir × IsTrue (is_name name) × (mode ≤ 4095) × (size < 2 ^ 64)
+IsChange (Lookup dir name) = ⊥
+IsChange (Scan dir) = ⊥
+IsChange (Grab dir name count) = ⊥
+IsChange (Load dir rows) = ⊥
+IsChange (Link dir name id) = ⊥
+
+-- a final that the plain rules allow for the call on some map
+abbrev pub MaySay : Call → Final → Type 0
+MaySay call said = (entries : Entries) × Allows entries call (Said said)
+
+-- the number of a final is in its range
+abbrev pub IsNumbered : Final → Type 0
+IsNumbered (CreatedDir number) = IsDirectory number
+IsNumbered (Ids first) = (2 ≤ first) × (first ≤ 2 ^ 45)
+IsNumbered (Loaded count) = count ≤ 4096
+IsNumbered said = Unit {0}
+
+-- the head of a log of the first format
+pub record IsHead (format servers server threshold : ℕ) : Type 0 where
+  pub format_is : format ≡ 1
+  pub some_server : 1 ≤ servers
+  pub few_servers : servers ≤ 32
+  pub below : server < servers
+  pub some_row : 1 ≤ threshold
+  pub few_rows : threshold ≤ 8000
+
+-- a change with its reply
+pub record IsServed (client seq part : ℕ) (call : Call) (said : Final) : Type 0 where
+  pub some_client : 1 ≤ client
+  pub few_clients : client ≤ 64
+  pub from_one : 1 ≤ seq
+  pub fits : seq < 2 ^ 64
+  pub below : part < 1024
+  pub change : IsChange call
+  pub reply : MaySay call said
+  pub numbered : IsNumbered said
+
+-- a record that has a spelling
+abbrev pub IsRecord : Record → Type 0
+IsRecord (Head format servers server threshold) = IsHead format servers server threshold
+IsRecord Opened = Unit {0}
+IsRecord (Served client seq part call said) = IsServed client seq part call said
+
+-- ---- the spellings
+
+-- the length of a name in one byte, and its bytes
+abbrev pub name_spelling : List ℕ → List ℕ
+name_spelling name = length name ∷ name
+
+-- the kind of a call, its directory, its name, and what belongs to the kind
+abbrev pub call_spelling : Call → List ℕ
+call_spelling (Create dir name) = 1 ∷ (to_be_bytes w64 dir ++ name_spelling name)
+call_spelling (Mkdir dir name) = 2 ∷ (to_be_bytes w64 dir ++ name_spelling name)
+call_spelling (Remove dir name) = 3 ∷ (to_be_bytes w64 dir ++ name_spelling name)
+call_spelling (Setattr dir name mode size) = 4 ∷ (to_be_bytes w64 dir ++ (name_spelling name ++ (to_be_bytes w16 mode ++ to_be_bytes w64 size)))
+call_spelling call = []
+
+abbrev pub tag_of : Final → ℕ
+tag_of Created = 1
+tag_of (CreatedDir number) = 2
+tag_of Exists = 3
+tag_of Removed = 4
+tag_of Missing = 5
+tag_of IsDir = 6
+tag_of Set = 7
+tag_of (Ids first) = 8
+tag_of (Loaded count) = 9
+tag_of Stale = 10
+
+-- the number of a final, 0 where it has none
+abbrev pub number_of : Final → ℕ
+number_of (CreatedDir number) = number
+number_of (Ids first) = first
+number_of (Loaded count) = count
+number_of said = 0
+
+abbrev pub final_spelling : Final → List ℕ
+final_spelling said = tag_of said ∷ to_be_bytes w64 (number_of said)
+
+-- the kind of a record, and its fields
+abbrev pub record_spelling : Record → List ℕ
+record_spelling (Head format servers server threshold) = 1 ∷ format ∷ (to_be_bytes w32 servers ++ (to_be_bytes w32 server ++ to_be_bytes w32 threshold))
+record_spelling Opened = 2 ∷ []
+record_spelling (Served client seq part call said) = 3 ∷ (to_be_bytes w32 client ++ (to_be_bytes w64 seq ++ (to_be_bytes w32 part ++ (call_spelling call ++ final_spelling said))))
+
+-- these bytes spell the record
+abbrev pub Spells : List ℕ → Record → Type 0
+Spells bytes item = IsRecord item × (bytes ≡ record_spelling item)
+
+-- ---- where no record begins the bytes
+
+-- the bytes are a proper prefix of some spelling
+abbrev pub IsBegun : List ℕ → Type 0
+IsBegun bytes = (more : List ℕ) × (item : Record) × (0 < length more) × Spells (bytes ++ more) item
+
+-- the byte at this place is the first after which no spelling can follow
+pub record IsBadAt (bytes : List ℕ) (place : ℕ) : Type 0 where
+  pub within : place < length bytes
+  pub before : IsBegun (take place bytes)
+  pub after : (more : List ℕ) (item : Record) → Spells (take (place + 1) bytes ++ more) item → ⊥
+
+-- it is this answer, unless memory ran out
+abbrev pub GivesOrMemory : Result (Record × ℕ) RecordFault → Result (Record × ℕ) RecordFault → Type 0
+GivesOrMemory (Err OutOfMemory) wanted = Unit {0}
+GivesOrMemory answer wanted = answer ≡ wanted

@@ -1,0 +1,25 @@
+//! What a server writes to its log, and what servers and clients send to each other.
+//!
+//! It stands on `mds_base`, and on `bitmap` for what redirects carry. A `Record` has one spelling as bytes (`docs/FORMATS.md`, "Records"), which `write`
+//! appends and `read` reads; messages are values, and have no byte form. The contract for the layers above: `read`
+//! gives the record whose spelling begins the bytes and that spelling's length, `Short` exactly where the bytes are
+//! a proper prefix of some spelling, and `Bad` with the first byte after which no spelling can follow; no spelling
+//! begins another one.
+#![tactic(auto)]
+
+mod fault;
+mod handled;
+mod msg;
+mod reading;
+mod record;
+mod writing;
+
+pub use fault::RecordFault;
+pub use handled::Handled;
+pub use msg::{Msg, MsgList};
+pub use reading::{laws_of_spellings, read};
+pub use record::{Record, RecordList};
+pub use writing::write;
+
+#[cfg(test)]
+mod tests;

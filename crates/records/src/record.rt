@@ -1,0 +1,134 @@
+ghost use Rattle.std.specs.Prelude.{◌≡◌, ◌++◌, ◌∷◌, [], IfOk, OnOk, OnErr};
+
+use mds_base::{Call, Final};
+use std::alloc::{AllocError, Global};
+use std::marker::Model;
+
+/// A change of a server, as its log keeps it (`docs/FORMATS.md`, "Records").
+#[derive(Debug, Drop)]
+pub enum Record {
+    /// The first record of a log: whose log it is.
+    Head {
+        /// The format of the log, 1.
+        format: u8,
+        /// How many servers there are, from 1 to 32.
+        servers: u32,
+        /// The number of this server, below the servers.
+        server: u32,
+        /// A partition with more rows than this is split; from 1 to 8000.
+        threshold: u32,
+    },
+    /// The server was opened for a new run, in which no client has sent anything yet.
+    Opened,
+    /// A change was carried out.
+    Served {
+        /// The client, from 1 to 64.
+        client: u32,
+        /// The number of the call among the client's calls, from 1.
+        seq: u64,
+        /// The partition in which it was carried out, below 1024.
+        part: u32,
+        /// The call.
+        call: Call,
+        /// Its reply.
+        said: Final,
+    },
+}
+
+impl Record {
+    /// A copy of the record; it is refused only where there is no memory for it.
+    pub fn copy(&self, alloc: Global) -> Result<Record, AllocError>
+        ensures { IfOk result (λ copy. copy ≡ self.now) }
+    {
+        Ok(match self {
+            Record::Head {
+                format,
+                servers,
+                server,
+                threshold,
+            } => Record::Head {
+                format: *format,
+                servers: *servers,
+                server: *server,
+                threshold: *threshold,
+            },
+            Record::Opened => Record::Opened,
+            Record::Served {
+                client,
+                seq,
+                part,
+                call,
+                said,
+            } => Record::Served {
+                client: *client,
+                seq: *seq,
+                part: *part,
+                call: call.copy(alloc)?,
+                said: *said,
+            },
+        })
+    }
+}
+
+/// Records in their order.
+#[derive(Debug, Drop)]
+pub struct RecordList {
+    records: Vec<Record>,
+}
+
+impl Model for RecordList {
+    ghost use Rattle.std.specs.Prelude.{List};
+    ghost use Rattle.records.specs.declared.record.Record.{Record};
+
+    ghost Value = { List Record };
+
+    ghost view = { λ a. a.records.items };
+}
+
+impl RecordList {
+    /// The list with no record.
+    pub fn new(alloc: Global) -> RecordList
+        ensures { result ≡ [] }
+    {
+        RecordList {
+            records: Vec::new(alloc),
+        }
+    }
+
+    /// Adds a record at the end. Where there is no memory for it the list stays as it is.
+    pub fn push(&mut self, item: Record) -> Result<(), AllocError>
+        ensures ok { OnOk result (self.new ≡ self.old ++ item ∷ []) }
+        ensures err { OnErr result (self.new ≡ self.old) }
+    {
+        self.records.push(item)?;
+        Ok(())
+    }
+
+    /// Moves the records of another list to the end. Where there is no memory for it both stay as they are.
+    pub fn append(&mut self, other: &mut RecordList) -> Result<(), AllocError>
+        ensures ok { OnOk result (self.new ≡ self.old ++ other.old) }
+        ensures emptied { OnOk result (other.new ≡ []) }
+        ensures err { OnErr result ((self.new ≡ self.old) × (other.new ≡ other.old)) }
+    {
+        self.records.append(&mut other.records)?;
+        Ok(())
+    }
+
+    /// The records, in their order.
+    pub fn records(&self) -> &[Record]
+        ensures { result.now ≡ self.now }
+    {
+        self.records.as_slice()
+    }
+
+    /// A copy of the list; it is refused only where there is no memory for it.
+    pub fn copy(&self, alloc: Global) -> Result<RecordList, AllocError>
+        ensures { IfOk result (λ copy. copy ≡ self.now) }
+    {
+        let mut copies = Vec::with_capacity(alloc, self.records.len())?;
+        for record in &self.records {
+            copies.push(record.copy(alloc)?)?;
+        }
+        Ok(RecordList { records: copies })
+    }
+}
