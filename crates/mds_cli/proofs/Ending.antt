@@ -1,5 +1,5 @@
 -- How carrying out lines ends.
-use Rattle.std.proofs.Common.{◌≡◌, ◌∙◌, sym, ap, subst, refl, ℕ, ◌+◌, ◌<◌, ◌≤◌, ◌^◌, List, [], ◌∷◌, ◌++◌, length, arith, Option, Some, None}
+use Rattle.std.proofs.Common.{◌≡◌, ◌∙◌, sym, ap, subst, refl, ℕ, ◌+◌, ◌<◌, ◌≤◌, ◌^◌, List, [], ◌∷◌, ◌++◌, length, length-append, arith, Option, Some, None}
 use Rattle.std.specs.Prelude.{string_bytes}
 use Rattle.std.specs.Io.KnownBytes.{Consumes}
 use Rattle.std.specs.List.{AllByRecursion}
@@ -56,10 +56,11 @@ way first mid now directory effects count carried flows =
     subst (λ t. Flows first.taken now.taken now.pending t) (append-nil (answers_of carried.entries))
     (flows_through first.taken mid.taken now.taken mid.pending now.pending (answers_of carried.entries) [] carried.flows (subst (λ p. Flows mid.taken now.taken now.pending p) (sym (append-nil mid.pending)) flows))
 
-pub all_none : (first mid now : Streams) (old new : Session) (count : ℕ) → Carried first mid old.directory (string_bytes old.effects) count → CarriesNone mid now old new → CarriesAll first now (string_bytes new.effects)
-all_none first mid now old new count carried none = record {
+pub all_none : (first mid now : Streams) (old new : Session) (count : ℕ) → Carried first mid old.directory (string_bytes old.effects) count → CarriesNone mid now old new → count ≤ 2 ^ 22 → CarriesAll first now (string_bytes new.effects)
+all_none first mid now old new count carried none bound = record {
   run = record {
     entries = carried.entries;
+    count = omega (arith, carried.counted, bound);
     spelled = whole first.unread mid.unread now.unread (with_feeds carried.lines) [] carried.lines carried.entries carried.consumed none.consumed none.ends (lines_front carried.lines [] carried.parts ∙ append-nil carried.lines) carried.spelled;
     legal = legal carried.entries old.directory carried.leads;
     text = (way first mid now old.directory (string_bytes old.effects) count carried none.quiet.flows, none.effects ∙ carried.written);
@@ -73,6 +74,7 @@ unfolding entries_now
 all_last first mid now old new count number carried last numbered = record {
   run = record {
     entries = entries_now first mid now old new count number [] carried last.carries numbered;
+    count = omega (arith, length-append carried.entries (last.carries.entry ∷ []), carried.counted, numbered, last.carries.within);
     spelled = whole first.unread mid.unread now.unread (with_feeds carried.lines) (last.carries.line ++ []) (carried.lines ++ last.carries.line ∷ []) _ carried.consumed last.carries.consumed last.ends
         (lines_front carried.lines (last.carries.line ++ []) carried.parts ∙ ap (λ l. carried.lines ++ l) (ap lines_of (append-nil last.carries.line) ∙ last_line last.carries.line last.carries.is_part last.some))
         (spelled_now first mid now old new count number [] carried last.carries numbered);
@@ -89,6 +91,7 @@ module _ (first mid now : Streams) (directory : Entries) (effects : List ℕ) (c
     reason = record {
       entries = carried.entries;
       place = turn.place ∙ numbered ∙ ap (λ n. n + 1) (sym carried.counted);
+      count = omega (arith, carried.counted, bound);
       spelled = begins_bad carried.lines carried.entries carried.parts carried.spelled first.unread mid.unread carried.consumed turn.begins;
       legal = legal carried.entries directory carried.leads;
       text = way first mid now directory effects count carried turn.quiet.flows;

@@ -133,6 +133,7 @@ module _ (first : Streams) (left : Option (List ℕ)) (unread : first.unread ≡
   run_done effects all appends same = record {
     reason = record {
       entries = all.run.entries;
+      count = all.run.count;
       spelled = left_known left left_now held all.run.entries (subst (λ u. OnKnown u (prepend_known held left_now) (λ bytes rest. SpellsFront (lines_of bytes) 1 all.run.entries [] × (rest ≡ []))) unread all.run.spelled);
       legal = all.run.legal;
       text = subst (λ l. Appends first.taken taken_now l) (ap (λ e. answers_of all.run.entries ++ (e ++ codes "end\n")) all.run.text.1 ∙ sym (ends_with (answers_of all.run.entries) (effects_of all.run.entries)))
@@ -171,6 +172,7 @@ module _ (first : Streams) (left : Option (List ℕ)) (unread : first.unread ≡
     reason = record {
       entries = stops.reason.entries;
       place = stops.reason.place;
+      count = stops.reason.count;
       spelled = subst (λ u. OnTold u (λ bytes. BeginsBad bytes stops.reason.entries)) unread stops.reason.spelled;
       legal = stops.reason.legal;
       text = took first.taken taken taken_now pending (answers_of stops.reason.entries) stops.reason.text same.taken;

@@ -40,9 +40,10 @@ pub record GoesOnSpelled (bytes : List ℕ) (entries : List Entry) : Type 0 wher
 abbrev pub Begins : List ℕ → List Entry → Type 0
 Begins bytes entries = (rest : List (List ℕ)) × SpellsFront (lines_of bytes) 1 entries rest
 
--- The whole input was read, and each of its lines carried out.
+-- The whole input was read, and each of its lines, no more than a script may have, carried out.
 pub record WholeRun (input left : Option (List ℕ)) (Text : List Entry → Type 0) : Type 0 where
   pub entries : List Entry
+  pub count : length entries ≤ 2 ^ 22
   pub spelled : OnKnown input left (λ bytes rest. SpellsFront (lines_of bytes) 1 entries [] × (rest ≡ []))
   pub legal : IsLegal map.empty entries
   pub text : Text entries
@@ -51,6 +52,7 @@ pub record WholeRun (input left : Option (List ℕ)) (Text : List Entry → Type
 pub record FirstBad (line : ℕ) (input : Option (List ℕ)) (Text : List Entry → Type 0) : Type 0 where
   pub entries : List Entry
   pub place : line ≡ length entries + 1
+  pub count : length entries ≤ 2 ^ 22
   pub spelled : OnTold input (λ bytes. BeginsBad bytes entries)
   pub legal : IsLegal map.empty entries
   pub text : Text entries

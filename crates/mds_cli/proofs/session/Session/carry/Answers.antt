@@ -24,4 +24,4 @@ pub returns-in-Last-clause-ok : goal.returns-in-Last-clause-ok
 returns-in-Last-clause-ok g c = all_last (streams_of c.args.self.now (g.S.Source.left c.args.input.now) (g.K.Sink.taken c.args.output.now) (g.S.Source.faults c.args.input.now) (g.K.Sink.faults c.args.output.now)) (streams_of c.lines.self (g.S.Source.left c.lines.input) (g.K.Sink.taken c.lines.output) (g.S.Source.faults c.lines.input) (g.K.Sink.faults c.lines.output)) (streams_of c.turn.new.self (g.S.Source.left c.turn.new.input) (g.K.Sink.taken c.turn.new.output) (g.S.Source.faults c.turn.new.input) (g.K.Sink.faults c.turn.new.output)) c.lines.self c.turn.new.self c.lines.number _ c.lines.invariant.carried (rw c.in-Last.is at c.in_ok-turn.ensures.ok) refl
 
 pub returns-in-None-clause-ok : goal.returns-in-None-clause-ok
-returns-in-None-clause-ok g c = all_none (streams_of c.args.self.now (g.S.Source.left c.args.input.now) (g.K.Sink.taken c.args.output.now) (g.S.Source.faults c.args.input.now) (g.K.Sink.faults c.args.output.now)) (streams_of c.lines.self (g.S.Source.left c.lines.input) (g.K.Sink.taken c.lines.output) (g.S.Source.faults c.lines.input) (g.K.Sink.faults c.lines.output)) (streams_of c.turn.new.self (g.S.Source.left c.turn.new.input) (g.K.Sink.taken c.turn.new.output) (g.S.Source.faults c.turn.new.input) (g.K.Sink.faults c.turn.new.output)) c.lines.self c.turn.new.self c.lines.number c.lines.invariant.carried (rw c.in-None.is at c.in_ok-turn.ensures.ok)
+returns-in-None-clause-ok g c = all_none (streams_of c.args.self.now (g.S.Source.left c.args.input.now) (g.K.Sink.taken c.args.output.now) (g.S.Source.faults c.args.input.now) (g.K.Sink.faults c.args.output.now)) (streams_of c.lines.self (g.S.Source.left c.lines.input) (g.K.Sink.taken c.lines.output) (g.S.Source.faults c.lines.input) (g.K.Sink.faults c.lines.output)) (streams_of c.turn.new.self (g.S.Source.left c.turn.new.input) (g.K.Sink.taken c.turn.new.output) (g.S.Source.faults c.turn.new.input) (g.K.Sink.faults c.turn.new.output)) c.lines.self c.turn.new.self c.lines.number c.lines.invariant.carried (rw c.in-None.is at c.in_ok-turn.ensures.ok) c.lines.invariant.bound
