@@ -1,2 +1,5 @@
+pub mod Crash
 pub mod Failing
+pub mod Rooms
 pub mod Streams
+pub mod Writes

@@ -4,3 +4,8 @@ pub mod Calls
 pub mod BytesIn
 pub mod BytesOut
 pub mod Stream
+pub mod Images
+pub mod Disk
+pub mod Change
+pub mod Content
+pub mod FileRooms

@@ -11,11 +11,17 @@
 mod bytes_in;
 mod bytes_out;
 mod calls;
+mod change;
+mod disk;
+mod file;
+mod outcome;
 mod sink;
 mod source;
 
 pub use bytes_in::BytesIn;
 pub use bytes_out::BytesOut;
+pub use disk::{Disk, DiskFault, crash_images_law};
+pub use outcome::Outcome;
 pub use sink::{Sink, write_whole};
 pub use source::{Failed, Source};
 
