@@ -11,7 +11,7 @@ use Rattle.mds_out.specs.Disk.{put}
 use Rattle.mds_out.specs.Change.{changed, redone, change_end, half_written}
 use Rattle.mds_out.specs.Content.{Content, bytes_of, left_of, replayed}
 use Rattle.mds_out.specs.FileRooms.{HasRooms}
-use Rattle.mds_out.proofs.Writes.{half_length}
+use Rattle.mds_out.specs.ContentLaws.{half_length, put_length}
 
 -- a front of a list that stays at the front of a longer one
 pub front_stays : (old new : List ℕ) (n : ℕ) → take (length old) new ≡ old → n ≤ length old → take n new ≡ take n old
@@ -51,10 +51,6 @@ synced_rooms current kept kept' len n kept_len since rooms count is =
 -- a buffer that was lent whole, as a goal shows it
 pub lent_whole : (old new : List ℕ) (n : ℕ) → length new ≡ length old → n ≡ length old → take n (new ++ drop (length new) old) ≡ new
 lent_whole old new n same is = ap (λ l. take n (new ++ l)) (drop_all (length new) old (omega arith)) ∙ ap (take n) (append-nil new) ∙ take_all n new (omega arith)
-
--- how long a file is after a write depends on lengths alone
-put_length : (old bytes : List ℕ) (at : ℕ) → length (put old at bytes) ≡ min at (length old) + length bytes + (length old - (at + length bytes))
-put_length old bytes at = omega (arith, length-append (take at old ++ bytes) (drop (at + length bytes) old), length-append (take at old) bytes, length-take at old, length-drop (at + length bytes) old)
 
 spoilt_length : (old other : List ℕ) (change : Change) → length old ≡ length other → length (changed old (redone true change)) ≡ length (changed other change)
 spoilt_length old other (Write at written) same = omega (arith, put_length old (half_written written) at, put_length other written at, half_length written)

@@ -8,6 +8,7 @@ use lib.Seq.{paste}
 use borrow.Rule.Slice.PartMut.{put_mid}
 use Rattle.mds_out.specs.Disk.{put}
 use Rattle.mds_out.specs.Change.{half_written}
+use Rattle.mds_out.specs.ContentLaws.{half_length}
 
 -- a front of a front
 take_min : (xs : List ℕ) (at len m : ℕ) → m ≡ min at len → len ≤ length xs → take at (take len xs) ≡ take m xs
@@ -67,9 +68,6 @@ part_length xs a m v u w is fits within =
     let whole : length (paste xs m a v) ≡ length xs = omega (arith, length-append (take m xs ++ take v a) (drop (m + v) xs), length-append (take m xs) (take v a), length-take-le m xs (omega arith), length-take-le v a (omega arith), length-drop (m + v) xs) in
     let all : length (put_mid m v xs a) ≡ length xs = ap length (put_mid-paste m v xs a a v refl refl (sym is)) ∙ whole in
     length-take-le w (drop u (put_mid m v xs a)) (omega (arith, length-drop u (put_mid m v xs a), all))
-
-pub half_length : (bytes : List ℕ) → length (half_written bytes) ≡ length bytes
-half_length bytes = omega (arith, length-append (take (length bytes / 2) bytes) (replicate (length bytes - length bytes / 2) 165), length-take-le (length bytes / 2) bytes (omega arith), length-replicate {A = ℕ} (length bytes - length bytes / 2) 165)
 
 -- the front that counts after a write of the first half of ys and of as many a5 as are left
 pub spoilt_mid : (xs ys a b : List ℕ) (len at m v u w : ℕ) → m ≡ min at len → len ≤ length xs → m + length ys ≤ length xs → a ≡ take (length ys / 2) ys → b ≡ replicate (length ys - length ys / 2) 165

@@ -8,19 +8,23 @@
 //! The definitions that the clauses cite are in `specs/`.
 #![tactic(auto)]
 
+mod act;
 mod bytes_in;
 mod bytes_out;
 mod calls;
 mod change;
 mod disk;
 mod file;
+mod memory;
 mod outcome;
 mod sink;
+mod slots;
 mod source;
 
 pub use bytes_in::BytesIn;
 pub use bytes_out::BytesOut;
 pub use disk::{Disk, DiskFault, crash_images_law};
+pub use memory::Memory;
 pub use outcome::Outcome;
 pub use sink::{Sink, write_whole};
 pub use source::{Failed, Source};
