@@ -36,12 +36,12 @@ elapses_same outcome acts = record { later = omega arith; nothing_else = λ t im
 
 pub elapses_push : (outcome : Outcome) (acts : List Act) (act : Act) → Elapses (length acts) (length (acts ++ act ∷ [])) (IsImageSince outcome acts) (IsImageSince outcome (acts ++ act ∷ [])) (IsPastImage outcome (acts ++ act ∷ []))
 elapses_push outcome acts act = record {
-    later = omega (arith, size);
-    nothing_else = λ t image le since. ⊎_elim
-        (λ (old : since.0 < length acts + 1). inl (since.0, since.1, omega arith, subst (λ l. IsPastImage outcome l image) (take-append-le since.0 acts (act ∷ []) (omega arith)) since.3))
-        (λ (new : length acts + 1 ≤ since.0). inr (subst (λ l. IsPastImage outcome l image) (take_all since.0 (acts ++ act ∷ []) (omega (arith, size))) since.3))
-        (cases_lt since.0 (length acts + 1));
-    keeps = λ t image le past. (past.0, past.1, omega (arith, size, past.2), subst (λ l. IsPastImage outcome l image) (sym (take-append-le past.0 acts (act ∷ []) past.2)) past.3);
+  later = omega (arith, size);
+  nothing_else = λ t image le since. ⊎_elim
+      (λ (old : since.0 < length acts + 1). inl (since.0, since.1, omega arith, subst (λ l. IsPastImage outcome l image) (take-append-le since.0 acts (act ∷ []) (omega arith)) since.3))
+      (λ (new : length acts + 1 ≤ since.0). inr (subst (λ l. IsPastImage outcome l image) (take_all since.0 (acts ++ act ∷ []) (omega (arith, size))) since.3))
+      (cases_lt since.0 (length acts + 1));
+  keeps = λ t image le past. (past.0, past.1, omega (arith, size, past.2), subst (λ l. IsPastImage outcome l image) (sym (take-append-le past.0 acts (act ∷ []) past.2)) past.3);
 }
   where
     size : length (acts ++ act ∷ []) ≡ length acts + 1
@@ -96,19 +96,24 @@ change_follows outcome acts file change reaches image is = (before, old, record 
   where
     here : IsImage (history (with_change (content_of outcome acts file) change)) (image file)
     here = subst (λ c. IsImage (history c) (image file)) (content_push outcome acts (Changed file change) file ∙ changed_here outcome file (content_of outcome acts file) change) (is file)
+
     first : (b : List ℕ) × IsImage (history (content_of outcome acts file)) b × IsLed (step_of change) b (image file)
     first = image_before (content_of outcome acts file) change (image file) reaches here
+
     before : Image
     before other = cond (nat_eq file other) first.0 (image other)
+
     same_here : before file ≡ first.0
     same_here = equal file file first.0 (image file) refl
+
     led : IsLed (step_of change) (before file) (image file)
     led = subst (λ b. IsLed (step_of change) b (image file)) (sym same_here) first.2
+
     old : IsPastImage outcome acts before
     old other = ⊎_elim
         (λ (is_here : file ≡ other). subst (λ f. IsImage (history (content_of outcome acts f)) (before f)) is_here (subst (IsImage (history (content_of outcome acts file))) (sym same_here) first.1))
         (λ (apart : file ≢ other). subst (IsImage (history (content_of outcome acts other))) (sym (unequal file other first.0 (image other) apart))
-            (subst (λ c. IsImage (history c) (image other)) (content_push outcome acts (Changed file change) other ∙ changed_others outcome file change other (content_of outcome acts other) (λ same. apart (sym same))) (is other)))
+        (subst (λ c. IsImage (history c) (image other)) (content_push outcome acts (Changed file change) other ∙ changed_others outcome file change other (content_of outcome acts other) (λ same. apart (sym same))) (is other)))
         (cases_eq file other)
 
 pub write_follows : (outcome : Outcome) (acts : List Act) (file at : ℕ) (written : List ℕ) → at ≤ length (bytes_of (content_of outcome acts file))

@@ -52,5 +52,8 @@ pub synced_file : (file : ℕ) (old new : Past) → new ≡ with_act old (Synced
 synced_file file old new did image now = let P : Past → Type 0 = λ p. ImagesOf p image in sync_durable old.outcome old.acts file image (subst P did now)
 
 pub restarted_image : (old new : Past) → new ≡ with_act old Restarted → (image : Image) × ImagesOf old image × Shows (λ file. Some (bytes_of (content_of new.outcome new.acts file))) image
-restarted_image old new did = (λ file. left_of old.outcome (content_of old.outcome old.acts file), restart_left old.outcome old.acts,
-    λ file. restart_shows old.outcome old.acts file ∙ ap (λ (p : Past). bytes_of (content_of p.outcome p.acts file)) (sym did))
+restarted_image old new did = (
+  λ file. left_of old.outcome (content_of old.outcome old.acts file),
+  restart_left old.outcome old.acts,
+  λ file. restart_shows old.outcome old.acts file ∙ ap (λ (p : Past). bytes_of (content_of p.outcome p.acts file)) (sym did),
+)

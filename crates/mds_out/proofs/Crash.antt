@@ -41,27 +41,32 @@ write_before history at count image order reaches is = (before, good, torn)
     outside : (place : ℕ) → IsTouched ((at, count) ∷ history.touched) place → (IsTouched history.touched place → ⊥) → (at ≤ place → place < at + count → ⊥) → ⊥
     outside place (inl range) free out = out range.0 range.1
     outside place (inr older) free out = free older
+
     value : ℕ → ℕ
     value place = between at (at + count) place (get_or history.synced place 0) (get_or image place 0)
+
     size : ℕ
     size = min (length image) history.most
+
     before : List ℕ
     before = made size value
+
     good : IsImage history before
     good = record {
-        shortest = omega (arith, length-made size value, is.shortest);
-        longest = omega (arith, length-made size value);
-        untouched = λ place below free.
-            let here : place < size = omega (arith, is.shortest) in
-            get_or-made size value place here ∙ ⊎_elim (λ low. between_below at (at + count) place _ _ low ∙ is.untouched place below (λ touched. outside place touched free (λ le inside. absurd (omega arith))))
-                (λ (le : at ≤ place). ⊎_elim (λ (inside : place < at + count). between_in at (at + count) place _ _ le inside) (λ (out : at + count ≤ place). between_behind at (at + count) place _ _ out ∙ is.untouched place below (λ touched. outside place touched free (λ l inside. absurd (omega arith)))) (cases_lt place (at + count))) (cases_lt place at);
+      shortest = omega (arith, length-made size value, is.shortest);
+      longest = omega (arith, length-made size value);
+      untouched = λ place below free.
+          let here : place < size = omega (arith, is.shortest) in
+          get_or-made size value place here ∙ ⊎_elim (λ low. between_below at (at + count) place _ _ low ∙ is.untouched place below (λ touched. outside place touched free (λ le inside. absurd (omega arith))))
+          (λ (le : at ≤ place). ⊎_elim (λ (inside : place < at + count). between_in at (at + count) place _ _ le inside) (λ (out : at + count ≤ place). between_behind at (at + count) place _ _ out ∙ is.untouched place below (λ touched. outside place touched free (λ l inside. absurd (omega arith)))) (cases_lt place (at + count))) (cases_lt place at);
     }
+
     torn : IsTorn at count before image
     torn = record {
-        no_shorter = omega (arith, length-made size value);
-        no_longer = omega (arith, length-made size value, is.longest);
-        before = λ place low here. sym (get_or-made size value place (omega (arith, length-made size value)) ∙ between_below at (at + count) place _ _ low);
-        behind = λ place high here. sym (get_or-made size value place (omega (arith, length-made size value)) ∙ between_behind at (at + count) place _ _ high);
+      no_shorter = omega (arith, length-made size value);
+      no_longer = omega (arith, length-made size value, is.longest);
+      before = λ place low here. sym (get_or-made size value place (omega (arith, length-made size value)) ∙ between_below at (at + count) place _ _ low);
+      behind = λ place high here. sym (get_or-made size value place (omega (arith, length-made size value)) ∙ between_behind at (at + count) place _ _ high);
     }
 
 -- the file before a cut: as the image below the new end, as the synced file from there on
@@ -71,22 +76,26 @@ cut_before history to image order is = (before, good, shortened)
   where
     value : ℕ → ℕ
     value place = between 0 to place (get_or image place 0) (get_or history.synced place 0)
+
     size : ℕ
     size = max (length image) history.least
+
     before : List ℕ
     before = made size value
+
     good : IsImage history before
     good = record {
-        shortest = omega (arith, length-made size value);
-        longest = omega (arith, length-made size value, is.longest);
-        untouched = λ place below free. get_or-made size value place (omega arith)
-            ∙ ⊎_elim (λ (low : place < to). between_in 0 to place _ _ (omega arith) low ∙ is.untouched place (omega arith) free) (λ (high : to ≤ place). between_behind 0 to place _ _ high) (cases_lt place to);
+      shortest = omega (arith, length-made size value);
+      longest = omega (arith, length-made size value, is.longest);
+      untouched = λ place below free. get_or-made size value place (omega arith)
+          ∙ ⊎_elim (λ (low : place < to). between_in 0 to place _ _ (omega arith) low ∙ is.untouched place (omega arith) free) (λ (high : to ≤ place). between_behind 0 to place _ _ high) (cases_lt place to);
     }
+
     shortened : IsShortened to before image
     shortened = record {
-        no_shorter = omega (arith, length-made size value, is.shortest);
-        no_longer = omega (arith, length-made size value);
-        before = λ place low here. sym (get_or-made size value place (omega arith) ∙ between_in 0 to place _ _ (omega arith) low);
+      no_shorter = omega (arith, length-made size value, is.shortest);
+      no_longer = omega (arith, length-made size value);
+      before = λ place low here. sym (get_or-made size value place (omega arith) ∙ between_in 0 to place _ _ (omega arith) low);
     }
 
 pub images_come_by_step : ImagesComeByStep

@@ -2,6 +2,7 @@ pub mod Acts
 pub mod Clauses
 pub mod Crash
 pub mod Failing
+pub mod Fusing
 pub mod Places
 pub mod Rooms
 pub mod Streams

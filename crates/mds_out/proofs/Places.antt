@@ -55,10 +55,12 @@ push_empty (old ∷ slots) other slot empty = ap (λ c. cond (nat_eq old.number 
 -- what was done to the file in the first slot of its number
 pub file_acted : (slots : List Slot) (number place : ℕ) (slot : Slot) (outcome : Outcome) (act : Act) → IsFirst number slots place → slot.number ≡ number → slot.file ≡ acted outcome number (content_in slots number) act
     → ((other : ℕ) (content : Content) → other ≢ number → acted outcome other content act ≡ content) → HaveActed outcome act slots (set slots place slot)
-file_acted slots number place slot outcome act first is done others = record { each = λ other. ⊎_elim
-    (λ (here : number ≡ other). set_first slots number place other slot first is ∙ equal number other slot.file (content_in slots other) here ∙ done ∙ ap (λ n. acted outcome n (content_in slots n) act) here)
-    (λ (apart : number ≢ other). set_first slots number place other slot first is ∙ unequal number other slot.file (content_in slots other) apart ∙ sym (others other (content_in slots other) (λ same. apart (sym same))))
-    (cases_eq number other) }
+file_acted slots number place slot outcome act first is done others = record {
+  each = λ other. ⊎_elim
+      (λ (here : number ≡ other). set_first slots number place other slot first is ∙ equal number other slot.file (content_in slots other) here ∙ done ∙ ap (λ n. acted outcome n (content_in slots n) act) here)
+      (λ (apart : number ≢ other). set_first slots number place other slot first is ∙ unequal number other slot.file (content_in slots other) apart ∙ sym (others other (content_in slots other) (λ same. apart (sym same))))
+      (cases_eq number other);
+}
 
 pub changed_here : (outcome : Outcome) (number : ℕ) (content : Content) (change : Change) → acted outcome number content (Changed number change) ≡ with_change content change
 changed_here outcome number content change = equal number number (with_change content change) content refl
@@ -74,11 +76,13 @@ synced_others outcome number other content apart = unequal number other (at_rest
 
 -- a file that was never written is the same after a sync
 pub synced_none : (slots : List Slot) (number : ℕ) (outcome : Outcome) → HasNone number slots → HaveActed outcome (Synced number) slots slots
-synced_none slots number outcome none = record { each = λ other. ⊎_elim
-    (λ (here : other ≡ number). let empty : content_in slots other ≡ at_rest [] = ap (content_in slots) here ∙ none_is slots number none in
-        empty ∙ sym (ap (λ c. acted outcome other c (Synced number)) empty ∙ ap (λ n. acted outcome n (at_rest []) (Synced number)) here ∙ synced_here outcome number (at_rest [])))
-    (λ (apart : other ≢ number). sym (synced_others outcome number other (content_in slots other) apart))
-    (cases_eq other number) }
+synced_none slots number outcome none = record {
+  each = λ other. ⊎_elim
+      (λ (here : other ≡ number). let empty : content_in slots other ≡ at_rest [] = ap (content_in slots) here ∙ none_is slots number none in
+      empty ∙ sym (ap (λ c. acted outcome other c (Synced number)) empty ∙ ap (λ n. acted outcome n (at_rest []) (Synced number)) here ∙ synced_here outcome number (at_rest [])))
+      (λ (apart : other ≢ number). sym (synced_others outcome number other (content_in slots other) apart))
+      (cases_eq other number);
+}
 
 -- what a restart leaves in each slot
 abbrev pub restarted : Outcome → Slot → Slot
@@ -112,16 +116,18 @@ pub changed_place : (old slots : List Slot) (number place : ℕ) (now : Slot) (f
     → (outcome : Outcome) → HaveActed outcome (Changed number change) old (set slots place (record { number = now.number; file = file }))
 changed_place old slots number place now file change same first is done outcome =
     let acted = file_acted slots number place (record { number = now.number; file = file }) outcome (Changed number change) first (ap (λ (s : Slot). s.number) is ∙ first.is now)
-            (done ∙ ap (λ (s : Slot). with_change s.file change) is ∙ ap (λ c. with_change c change) (sym (first_is slots number place now first)) ∙ sym (changed_here outcome number (content_in slots number) change))
-            (λ other content apart. changed_others outcome number change other content apart) in
+    (done ∙ ap (λ (s : Slot). with_change s.file change) is ∙ ap (λ c. with_change c change) (sym (first_is slots number place now first)) ∙ sym (changed_here outcome number (content_in slots number) change))
+    (λ other content apart. changed_others outcome number change other content apart) in
     record { each = λ other. acted.each other ∙ ap (λ c. cond (nat_eq number other) (with_change c change) c) (same.each other) }
 
 -- where that change is refused nothing has changed
 pub refused_place : (old slots : List Slot) (number place : ℕ) (now : Slot) (file : Content) → AreAsBefore old slots → IsFirst number slots place → now ≡ get_or slots place now → file ≡ now.file → AreAsBefore old (set slots place (record { number = now.number; file = file }))
-refused_place old slots number place now file same first is done = record { each = λ other. ⊎_elim
-    (λ (here : number ≡ other). set_first slots number place other _ first number_is ∙ equal number other file (content_in slots other) here ∙ done ∙ ap (λ (s : Slot). s.file) is ∙ sym (first_is slots number place now first) ∙ ap (content_in slots) here ∙ same.each other)
-    (λ (apart : number ≢ other). set_first slots number place other _ first number_is ∙ unequal number other file (content_in slots other) apart ∙ same.each other)
-    (cases_eq number other) }
+refused_place old slots number place now file same first is done = record {
+  each = λ other. ⊎_elim
+      (λ (here : number ≡ other). set_first slots number place other _ first number_is ∙ equal number other file (content_in slots other) here ∙ done ∙ ap (λ (s : Slot). s.file) is ∙ sym (first_is slots number place now first) ∙ ap (content_in slots) here ∙ same.each other)
+      (λ (apart : number ≢ other). set_first slots number place other _ first number_is ∙ unequal number other file (content_in slots other) apart ∙ same.each other)
+      (cases_eq number other);
+}
   where
     number_is : now.number ≡ number
     number_is = ap (λ (s : Slot). s.number) is ∙ first.is now

@@ -30,22 +30,22 @@ pub changed_rooms : (current current' kept kept' : List ℕ) (len len' kept_len 
     → take len' current' ≡ changed (take len current) change → len' ≤ length current' → length current ≤ length current' → take (length kept) kept' ≡ kept → length kept ≤ length kept' → change_end change ≤ length kept'
     → since' ≡ since ++ change ∷ [] → HasRooms current' kept' len' kept_len since'
 changed_rooms current current' kept kept' len len' kept_len since since' change rooms is count longer front kept_longer fits pushed = subst (HasRooms current' kept' len' kept_len) (sym pushed) (record {
-    reads = is ∙ ap (λ l. changed l change) (rooms.reads ∙ ap (λ l. replayed false l since) (sym (front_stays kept kept' kept_len front rooms.kept_room))) ∙ sym (replayed_push (take kept_len kept') since change);
-    room = count;
-    kept_room = omega (arith, rooms.kept_room);
-    kept_fits = omega (arith, rooms.kept_fits);
-    changes_fit = fits_push (length kept') since change (fits_longer (length kept) (length kept') since kept_longer rooms.changes_fit) fits;
+  reads = is ∙ ap (λ l. changed l change) (rooms.reads ∙ ap (λ l. replayed false l since) (sym (front_stays kept kept' kept_len front rooms.kept_room))) ∙ sym (replayed_push (take kept_len kept') since change);
+  room = count;
+  kept_room = omega (arith, rooms.kept_room);
+  kept_fits = omega (arith, rooms.kept_fits);
+  changes_fit = fits_push (length kept') since change (fits_longer (length kept) (length kept') since kept_longer rooms.changes_fit) fits;
 })
 
 pub synced_rooms : (current kept kept' : List ℕ) (len n kept_len : ℕ) (since : List Change) → HasRooms current kept len kept_len since → n ≤ length kept' → take n kept' ≡ replayed false (take kept_len kept) since → HasRooms current kept' len n []
 synced_rooms current kept kept' len n kept_len since rooms count is =
     let sizes : n ≡ len = sym (length-take-le n kept' count) ∙ ap length (is ∙ sym rooms.reads) ∙ length-take-le len current rooms.room in
     record {
-        reads = rooms.reads ∙ sym is;
-        room = rooms.room;
-        kept_room = count;
-        kept_fits = omega (arith, rooms.room);
-        changes_fit = λ k d here. absurd (omega arith);
+      reads = rooms.reads ∙ sym is;
+      room = rooms.room;
+      kept_room = count;
+      kept_fits = omega (arith, rooms.room);
+      changes_fit = λ k d here. absurd (omega arith);
     }
 
 -- a buffer that was lent whole, as a goal shows it
@@ -68,11 +68,11 @@ left_fits current kept len kept_len since Mixed rooms = omega (arith, replayed_l
 -- after a restart both buffers hold what it left
 pub restarted_rooms : (current current' kept' : List ℕ) (n : ℕ) → n ≤ length kept' → n ≤ length current' → take n current' ≡ take n kept' → HasRooms current' kept' n n []
 restarted_rooms current current' kept' n kept_count count same = record {
-    reads = same;
-    room = count;
-    kept_room = kept_count;
-    kept_fits = count;
-    changes_fit = λ k d here. absurd (omega arith);
+  reads = same;
+  room = count;
+  kept_room = kept_count;
+  kept_fits = count;
+  changes_fit = λ k d here. absurd (omega arith);
 }
 
 -- what a restart leaves has room in the other buffer

@@ -25,19 +25,25 @@ written_front xs ys len at n m is count within fits = ⊎_elim behind inside (ca
   where
     size : length (take len xs) ≡ len
     size = length-take-le len xs within
+
     all : take n ys ≡ ys
     all = take_all n ys (omega arith)
+
     front : List ℕ
     front = take m xs ++ take n ys
+
     front_size : length front ≡ m + n
     front_size = omega (arith, length-append (take m xs) (take n ys), length-take-le m xs (omega arith), length-take-le n ys (omega arith))
+
     front_is : front ≡ take at (take len xs) ++ ys
     front_is = ap (λ l. take m xs ++ l) all ∙ ap (λ l. l ++ ys) (sym (take_min xs at len m is within))
+
     behind : m + n < len → take (max len (m + n)) (paste xs m ys n) ≡ put (take len xs) at ys
     behind lt =
         ap (λ w. take w (front ++ drop (m + n) xs)) (omega (arith, front_size)) ∙ take-append-add front (drop (m + n) xs) (len - (m + n))
         ∙ ap (λ l. l ++ take (len - (m + n)) (drop (m + n) xs)) front_is
         ∙ ap (λ l. take at (take len xs) ++ ys ++ l) (sym (rest_of_front xs (at + length ys) len (m + n) (len - (m + n)) (omega arith) (omega arith)))
+
     inside : len ≤ m + n → take (max len (m + n)) (paste xs m ys n) ≡ put (take len xs) at ys
     inside le =
         take_at front (drop (m + n) xs) (max len (m + n)) (omega (arith, front_size))

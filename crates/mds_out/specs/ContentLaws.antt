@@ -19,14 +19,14 @@ half_length bytes = omega (arith, length-append (take (length bytes / 2) bytes) 
 -- a write of as many bytes is a torn one
 put_torn : (old bytes : List ℕ) (at count : ℕ) → length bytes ≡ count → IsTorn at count old (put old at bytes)
 put_torn old bytes at count is = record {
-    no_shorter = omega (arith, put_length old bytes at);
-    no_longer = omega (arith, put_length old bytes at);
-    before = λ place low here.
-        get_or_append_left (take at old ++ bytes) (drop (at + length bytes) old) 0 place (omega (arith, length-append (take at old) bytes, length-take at old))
-        ∙ get_or_append_left (take at old) bytes 0 place (omega (arith, length-take at old)) ∙ get_or-take at old place 0 low;
-    behind = λ place high here.
-        get_or-append_right (take at old ++ bytes) (drop (at + length bytes) old) (at + length bytes) place 0 (omega (arith, length-append (take at old) bytes, length-take at old)) (omega arith)
-        ∙ get_or-drop (at + length bytes) old (place - (at + length bytes)) 0 ∙ ap (λ k. get_or old k 0) (omega arith);
+  no_shorter = omega (arith, put_length old bytes at);
+  no_longer = omega (arith, put_length old bytes at);
+  before = λ place low here.
+      get_or_append_left (take at old ++ bytes) (drop (at + length bytes) old) 0 place (omega (arith, length-append (take at old) bytes, length-take at old))
+      ∙ get_or_append_left (take at old) bytes 0 place (omega (arith, length-take at old)) ∙ get_or-take at old place 0 low;
+  behind = λ place high here.
+      get_or-append_right (take at old ++ bytes) (drop (at + length bytes) old) (at + length bytes) place 0 (omega (arith, length-append (take at old) bytes, length-take at old)) (omega arith)
+      ∙ get_or-drop (at + length bytes) old (place - (at + length bytes)) 0 ∙ ap (λ k. get_or old k 0) (omega arith);
 }
 
 -- a cut is a shortened one

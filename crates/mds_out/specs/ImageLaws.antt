@@ -8,16 +8,16 @@ synced_image bytes = record { shortest = omega arith; longest = omega arith; unt
 
 pub step_image : (history : History) (step : Step) (old new : List ℕ) → IsImage history old → IsLed step old new → IsImage (history_after history step) new
 step_image history (Writes at count) old new is led = record {
-    shortest = omega (arith, is.shortest, led.no_shorter);
-    longest = omega (arith, is.longest, led.no_longer);
-    untouched = λ place below free.
-        let same : get_or new place 0 ≡ get_or old place 0 = ⊎_elim (λ lt. led.before place lt (omega (arith, is.shortest))) (λ (le : at ≤ place). ⊎_elim (λ (inside : place < at + count). absurd (free (inl (le, inside)))) (λ (out : at + count ≤ place). led.behind place out (omega (arith, is.shortest))) (cases_lt place (at + count))) (cases_lt place at) in
-        same ∙ is.untouched place below (λ touched. free (inr touched));
+  shortest = omega (arith, is.shortest, led.no_shorter);
+  longest = omega (arith, is.longest, led.no_longer);
+  untouched = λ place below free.
+      let same : get_or new place 0 ≡ get_or old place 0 = ⊎_elim (λ lt. led.before place lt (omega (arith, is.shortest))) (λ (le : at ≤ place). ⊎_elim (λ (inside : place < at + count). absurd (free (inl (le, inside)))) (λ (out : at + count ≤ place). led.behind place out (omega (arith, is.shortest))) (cases_lt place (at + count))) (cases_lt place at) in
+      same ∙ is.untouched place below (λ touched. free (inr touched));
 }
 step_image history (Cuts to) old new is led = record {
-    shortest = omega (arith, is.shortest, led.no_shorter);
-    longest = omega (arith, is.longest, led.no_longer);
-    untouched = λ place below free. led.before place (omega arith) (omega (arith, is.shortest, led.no_shorter)) ∙ is.untouched place (omega arith) free;
+  shortest = omega (arith, is.shortest, led.no_shorter);
+  longest = omega (arith, is.longest, led.no_longer);
+  untouched = λ place below free. led.before place (omega arith) (omega (arith, is.shortest, led.no_shorter)) ∙ is.untouched place (omega arith) free;
 }
 
 pub steps_image : (history : History) (steps : List Step) (old new : List ℕ) → IsImage history old → AreLed steps old new → IsImage (history_of history steps) new

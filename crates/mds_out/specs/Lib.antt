@@ -14,3 +14,4 @@ pub mod FileRooms
 pub mod Past
 pub mod PastLaws
 pub mod Slots
+pub mod Fused

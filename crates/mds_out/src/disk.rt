@@ -138,5 +138,4 @@ pub trait Disk {
 pub fn crash_images_law()
     ensures steps_give_images { StepsGiveImages }
     ensures images_come_by_step { ImagesComeByStep }
-{
-}
+{}

@@ -90,7 +90,12 @@ impl File {
 }
 
 // Does a change to the first `len` bytes of `current`, makes room for it in `kept`, and says how many bytes count then.
-fn apply(current: &mut Vec<u8>, kept: &mut Vec<u8>, len: usize, change: &Change) -> Result<usize, AllocError>
+fn apply(
+    current: &mut Vec<u8>,
+    kept: &mut Vec<u8>,
+    len: usize,
+    change: &Change,
+) -> Result<usize, AllocError>
     requires within { len ≤ length current.old.items }
     requires short { change_end change.now < 2 ^ 63 }
     ensures changed { IfOk result (λ n. take n current.new.items ≡ changed (take len current.old.items) change.now) }

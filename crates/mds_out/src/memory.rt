@@ -105,7 +105,13 @@ impl Memory {
             return Err(DiskFault::Device);
         }
         let bytes = Written::of(self.alloc, bytes)?;
-        self.change(file, Change::Write { at: at as usize, bytes })?;
+        self.change(
+            file,
+            Change::Write {
+                at: at as usize,
+                bytes,
+            },
+        )?;
         Ok(())
     }
 

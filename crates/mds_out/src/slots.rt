@@ -63,7 +63,12 @@ fn place_for(alloc: Global, slots: &mut Vec<Slot>, number: u32) -> Result<usize,
 }
 
 /// Changes one file.
-pub(crate) fn change_file(alloc: Global, slots: &mut Vec<Slot>, number: u32, change: Change) -> Result<(), AllocError>
+pub(crate) fn change_file(
+    alloc: Global,
+    slots: &mut Vec<Slot>,
+    number: u32,
+    change: Change,
+) -> Result<(), AllocError>
     requires { change_end change < 2 ^ 63 }
     ensures ok { OnOk result ((outcome : _) → HaveActed outcome (Changed number change) slots.old.items slots.new.items) }
     ensures err { OnErr result (AreAsBefore slots.old.items slots.new.items) }

@@ -4,6 +4,6 @@ use Rattle.mds_out.proofs.change.replay.Given as goal
 
 abbrev pub invariant-loop-change : goal.invariant-loop-change
 invariant-loop-change l = record {
-    count : l.len ≤ length l.buffer;
-    replayed : take l.len l.buffer ≡ fold (λ bytes change. changed bytes (redone l.spoil change)) (take l.fn.len l.fn.buffer) (take l.change-index l.changes);
+  count : l.len ≤ length l.buffer;
+  replayed : take l.len l.buffer ≡ fold (λ bytes change. changed bytes (redone l.spoil change)) (take l.fn.len l.fn.buffer) (take l.change-index l.changes);
 }

@@ -11,9 +11,9 @@ loop-place-preserved c =
     let now = c.loop-place.slots.items in
     let within : c.loop-place.place < length c.args.slots.now.items = omega (arith, c.loop-place.invariant.size) in
     record {
-        size = length-set now c.loop-place.place _ ∙ c.loop-place.invariant.size;
-        done = ap (λ (file : Content). set now c.loop-place.place (record { number = c.index_mut.result.now.number; file = file })) c.restart.ensures
-            ∙ map_over_more (restarted c.args.outcome) c.args.slots.now.items now c.loop-place.place c.index_mut.result.now within c.loop-place.invariant.done c.index_mut.ensures.value;
+      size = length-set now c.loop-place.place _ ∙ c.loop-place.invariant.size;
+      done = ap (λ (file : Content). set now c.loop-place.place (record { number = c.index_mut.result.now.number; file = file })) c.restart.ensures
+          ∙ map_over_more (restarted c.args.outcome) c.args.slots.now.items now c.loop-place.place c.index_mut.result.now within c.loop-place.invariant.done c.index_mut.ensures.value;
     }
 
 pub returns : goal.returns

@@ -4,6 +4,6 @@ use Rattle.mds_out.proofs.slots.restart_files.Given as goal
 
 abbrev pub invariant-loop-place : goal.invariant-loop-place
 invariant-loop-place l = record {
-    size : length l.slots.items ≡ length l.fn.slots.items;
-    done : l.slots.items ≡ map (restarted l.outcome) (take l.place l.fn.slots.items) ++ drop l.place l.fn.slots.items;
+  size : length l.slots.items ≡ length l.fn.slots.items;
+  done : l.slots.items ≡ map (restarted l.outcome) (take l.place l.fn.slots.items) ++ drop l.place l.fn.slots.items;
 }
