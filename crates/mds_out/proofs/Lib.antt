@@ -3,6 +3,7 @@ pub mod Clauses
 pub mod Crash
 pub mod Failing
 pub mod Fusing
+pub mod Moments
 pub mod Places
 pub mod Rooms
 pub mod Streams

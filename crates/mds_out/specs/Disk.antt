@@ -1,5 +1,5 @@
 -- What the calls of a disk do to its files, and what a crash may do during them.
-use Rattle.std.specs.Prelude.{◌≡◌, ◌≢◌, ◌⊎◌, ℕ, ◌+◌, ◌≤◌, List, ◌++◌, length, take, drop, Option, Some, Result, OnOk, IsErrOf}
+use Rattle.std.specs.Prelude.{◌≡◌, ◌≢◌, ◌⊎◌, ℕ, ◌+◌, ◌≤◌, List, ◌++◌, length, take, drop, ⊤, Option, None, Some, Result, OnOk, IsErrOf}
 use Rattle.mds_out.specs.declared.disk.DiskFault.{DiskFault}
 use Rattle.mds_out.specs.declared.disk.DiskFault.TheVariants.{Device, OutOfMemory}
 use Rattle.mds_out.specs.Fault.{Rose}
@@ -16,6 +16,13 @@ Contents = ℕ → Option (List ℕ)
 -- the length of each file, where it is known
 abbrev pub Lengths : Type 0
 Lengths = ℕ → Option ℕ
+
+-- a file that is told goes on by this change, and one that is not told is not told then
+abbrev pub Tells : Option (List ℕ) → Option (List ℕ) → (List ℕ → List ℕ → Type 0) → Type 0
+Tells None None change = ⊤
+Tells None (Some now) change = ⊥
+Tells (Some before) None change = ⊥
+Tells (Some before) (Some now) change = change before now
 
 -- the bytes with these at this place in their stead, or behind them
 abbrev pub put : List ℕ → ℕ → List ℕ → List ℕ

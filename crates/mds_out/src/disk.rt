@@ -3,7 +3,7 @@ ghost use Rattle.std.specs.Prelude.{◌≡◌, ◌+◌, ◌-◌, ◌*◌, ◌^�
 ghost use Rattle.mds_out.specs.declared.disk.DiskFault.TheVariants.{OutOfMemory};
 ghost use Rattle.mds_out.specs.Known.{OnKnown, OnTold};
 ghost use Rattle.mds_out.specs.Images.{IsTorn, IsShortened, StepsGiveImages, ImagesComeByStep};
-ghost use Rattle.mds_out.specs.Disk.{Image, Contents, Lengths, put, Shows, IsUnchanged, IsElsewhereUnchanged, AreSame, Follows, Elapses, HasDiskCause};
+ghost use Rattle.mds_out.specs.Disk.{Image, Tells, Contents, Lengths, put, Shows, IsUnchanged, IsElsewhereUnchanged, AreSame, Follows, Elapses, HasDiskCause};
 
 use std::alloc::{AllocError, AllocFailed};
 
@@ -81,9 +81,9 @@ pub trait Disk {
     fn write_at(&mut self, file: u32, at: u64, bytes: &[u8]) -> Result<(), DiskFault>
         requires short { at + length bytes.now < 2 ^ 63 }
         requires within { OnTold (sizes self.old file) (λ size. at ≤ size) }
-        ensures written { OnOk result (OnKnown (seen self.old file) (seen self.new file) (λ old new. new ≡ put old at bytes.now)) }
+        ensures written { OnOk result (Tells (seen self.old file) (seen self.new file) (λ old new. new ≡ put old at bytes.now)) }
         ensures size { OnOk result (OnKnown (sizes self.old file) (sizes self.new file) (λ old new. new ≡ max old (at + length bytes.now))) }
-        ensures torn { OnErr result (OnKnown (seen self.old file) (seen self.new file) (IsTorn at (length bytes.now))) }
+        ensures torn { OnErr result (Tells (seen self.old file) (seen self.new file) (IsTorn at (length bytes.now))) }
         ensures elsewhere { IsElsewhereUnchanged file (seen self.old) (seen self.new) (sizes self.old) (sizes self.new) }
         ensures crash { Follows file (IsTorn at (length bytes.now)) (images self.old) (images self.new) }
         ensures time { Elapses (moment self.old) (moment self.new) (images_since self.old) (images_since self.new) (images self.new) }
@@ -92,9 +92,9 @@ pub trait Disk {
     /// Cuts a file to a length. A refused cut touches the bytes from there on at most.
     fn cut(&mut self, file: u32, to: u64) -> Result<(), DiskFault>
         requires { OnTold (sizes self.old file) (λ size. to ≤ size) }
-        ensures cut { OnOk result (OnKnown (seen self.old file) (seen self.new file) (λ old new. new ≡ take to old)) }
+        ensures cut { OnOk result (Tells (seen self.old file) (seen self.new file) (λ old new. new ≡ take to old)) }
         ensures size { OnOk result (sizes self.new file ≡ Some to) }
-        ensures torn { OnErr result (OnKnown (seen self.old file) (seen self.new file) (IsShortened to)) }
+        ensures torn { OnErr result (Tells (seen self.old file) (seen self.new file) (IsShortened to)) }
         ensures elsewhere { IsElsewhereUnchanged file (seen self.old) (seen self.new) (sizes self.old) (sizes self.new) }
         ensures crash { Follows file (IsShortened to) (images self.old) (images self.new) }
         ensures time { Elapses (moment self.old) (moment self.new) (images_since self.old) (images_since self.new) (images self.new) }

@@ -2,7 +2,7 @@
 ghost use Rattle.std.specs.Prelude.{◌≡◌, ◌+◌, ◌-◌, ◌*◌, ◌^◌, ◌<◌, ◌≤◌, None, Some, true, false, min, max, length, take, drop, IfOk, OnOk, OnErr, IsErrOf, MatchBool};
 ghost use Rattle.mds_out.specs.Known.{OnKnown, OnTold};
 ghost use Rattle.mds_out.specs.Images.{IsTorn, IsShortened};
-ghost use Rattle.mds_out.specs.Disk.{Image, put, Shows, IsUnchanged, IsElsewhereUnchanged, AreSame, Follows, Elapses, HasDiskCause};
+ghost use Rattle.mds_out.specs.Disk.{Image, Tells, put, Shows, IsUnchanged, IsElsewhereUnchanged, AreSame, Follows, Elapses, HasDiskCause};
 ghost use Rattle.mds_out.specs.Fused.{fused_faults, is_blown, one_less, IsFused};
 
 use crate::{Disk, DiskFault};
@@ -135,9 +135,9 @@ impl<D: Disk> Disk for Fuse<D> {
     fn write_at(&mut self, file: u32, at: u64, bytes: &[u8]) -> Result<(), DiskFault>
         requires short { at + length bytes.now < 2 ^ 63 }
         requires within { OnTold (D.sizes self.old.inner file) (λ size. at ≤ size) }
-        ensures written { OnOk result (OnKnown (D.seen self.old.inner file) (D.seen self.new.inner file) (λ old new. new ≡ put old at bytes.now)) }
+        ensures written { OnOk result (Tells (D.seen self.old.inner file) (D.seen self.new.inner file) (λ old new. new ≡ put old at bytes.now)) }
         ensures size { OnOk result (OnKnown (D.sizes self.old.inner file) (D.sizes self.new.inner file) (λ old new. new ≡ max old (at + length bytes.now))) }
-        ensures torn { OnErr result (OnKnown (D.seen self.old.inner file) (D.seen self.new.inner file) (IsTorn at (length bytes.now))) }
+        ensures torn { OnErr result (Tells (D.seen self.old.inner file) (D.seen self.new.inner file) (IsTorn at (length bytes.now))) }
         ensures elsewhere { IsElsewhereUnchanged file (D.seen self.old.inner) (D.seen self.new.inner) (D.sizes self.old.inner) (D.sizes self.new.inner) }
         ensures crash { Follows file (IsTorn at (length bytes.now)) (D.images self.old.inner) (D.images self.new.inner) }
         ensures time { Elapses (D.moment self.old.inner) (D.moment self.new.inner) (D.images_since self.old.inner) (D.images_since self.new.inner) (D.images self.new.inner) }
@@ -152,9 +152,9 @@ impl<D: Disk> Disk for Fuse<D> {
 
     fn cut(&mut self, file: u32, to: u64) -> Result<(), DiskFault>
         requires { OnTold (D.sizes self.old.inner file) (λ size. to ≤ size) }
-        ensures cut { OnOk result (OnKnown (D.seen self.old.inner file) (D.seen self.new.inner file) (λ old new. new ≡ take to old)) }
+        ensures cut { OnOk result (Tells (D.seen self.old.inner file) (D.seen self.new.inner file) (λ old new. new ≡ take to old)) }
         ensures size { OnOk result (D.sizes self.new.inner file ≡ Some to) }
-        ensures torn { OnErr result (OnKnown (D.seen self.old.inner file) (D.seen self.new.inner file) (IsShortened to)) }
+        ensures torn { OnErr result (Tells (D.seen self.old.inner file) (D.seen self.new.inner file) (IsShortened to)) }
         ensures elsewhere { IsElsewhereUnchanged file (D.seen self.old.inner) (D.seen self.new.inner) (D.sizes self.old.inner) (D.sizes self.new.inner) }
         ensures crash { Follows file (IsShortened to) (D.images self.old.inner) (D.images self.new.inner) }
         ensures time { Elapses (D.moment self.old.inner) (D.moment self.new.inner) (D.images_since self.old.inner) (D.images_since self.new.inner) (D.images self.new.inner) }
