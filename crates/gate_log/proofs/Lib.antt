@@ -1,2 +1,4 @@
 pub mod Appends
 pub mod Frames
+pub mod Makes
+pub mod Scans

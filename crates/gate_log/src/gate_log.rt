@@ -1,7 +1,16 @@
 //! The log.
-ghost use Rattle.std.specs.Prelude.{◌≡◌, length};
+ghost use Rattle.std.specs.Prelude.{◌≡◌, ◌+◌, ◌^◌, ◌<◌, ◌≤◌, ◌++◌, ◌∷◌, [], List, ℕ, Ok, Err, Some, None, true, false, length, IfOk, IfErr, OnOk, OnErr, MatchOption};
+ghost use Rattle.gate_log.specs.Calls.{IsDiskAnswer, IsOpenAnswer, IsMaking, IsGateAt, IsSomeGate, IsReplayed};
+ghost use Rattle.gate_log.specs.Found.{IsFound};
+ghost use Rattle.gate_log.specs.Log.{IsBeforeOrAfter};
+ghost use Rattle.gate_log.specs.LogState.{open_log, IsReady, HasBodies, IsElsewhereOld, HasLogCause};
+ghost use Rattle.gate_log.specs.Refusals.{log_fault_of, IsReplayRefusal, IsEndReady};
+ghost use Rattle.mds_out.specs.Disk.{LeavesOnly, IsUnchanged, IsElsewhereUnchanged, AreSame, HasDiskCause};
+ghost use Rattle.mds_out.specs.Known.{OnTold};
 
 use crate::Piece;
+use crate::scan::{Found, end_of};
+use crate::writes::{append_at, write_synced};
 use mds_out::{Disk, DiskFault};
 use std::marker::Model;
 
@@ -35,6 +44,17 @@ impl Model for GateLog {
     ghost view = { λ l. record { file = l.file; length = l.length; stopped = l.stopped } };
 }
 
+impl From<DiskFault> for LogFault {
+    ghost from_gives = { λ fault answer. answer ≡ log_fault_of fault };
+
+    fn from(fault: DiskFault) -> Self {
+        match fault {
+            DiskFault::Device => LogFault::Device,
+            DiskFault::OutOfMemory => LogFault::OutOfMemory,
+        }
+    }
+}
+
 impl GateLog {
     /// The bytes of the log, its closed gate included.
     pub fn length(&self) -> u64
@@ -42,4 +62,100 @@ impl GateLog {
     {
         self.length
     }
+
+    /// Makes the file of a log that holds no body. What the file held is gone.
+    pub fn create<D: Disk>(disk: &mut D, file: u32) -> Result<GateLog, LogFault>
+        ensures made { IfOk result (λ log. log ≡ open_log file 1) }
+        ensures ready { OnOk result (IsReady (open_log file 1) (D.seen disk.new) (D.sizes disk.new) (D.images disk.new)) }
+        ensures empty { OnOk result (HasBodies (open_log file 1) (D.seen disk.new) []) }
+        ensures any_moment { LeavesOnly D.moment D.images_since disk.old disk.new (IsMaking file (D.images disk.old)) }
+        ensures elsewhere { IsElsewhereUnchanged file (D.seen disk.old) (D.seen disk.new) (D.sizes disk.old) (D.sizes disk.new) }
+        ensures answer { IsDiskAnswer result }
+        ensures cause { HasLogCause (D.faults disk.old) (D.faults disk.new) result }
+    {
+        make_file(disk, file)?;
+        Ok(GateLog {
+            file,
+            length: 1,
+            stopped: false,
+        })
+    }
+
+    /// Opens the log in a file. It syncs the file first. `BadLog` comes exactly where the file is empty, with place 0,
+    /// or where an open gate lacks bytes behind it, with that gate's place.
+    pub fn open_file<D: Disk>(disk: &mut D, file: u32) -> Result<GateLog, LogFault>
+        ensures opened { IfOk result (λ log. (log.file ≡ file) × (log.stopped ≡ false)) }
+        ensures ready { IfOk result (λ log. IsReady log (D.seen disk.new) (D.sizes disk.new) (D.images disk.new)) }
+        ensures unchanged { IsUnchanged (D.seen disk.old) (D.seen disk.new) (D.sizes disk.old) (D.sizes disk.new) }
+        ensures any_moment { LeavesOnly D.moment D.images_since disk.old disk.new (D.images disk.old) }
+        ensures answer { IsOpenAnswer (D.seen disk.old file) result }
+        ensures cause { HasLogCause (D.faults disk.old) (D.faults disk.new) result }
+    {
+        match find_end(disk, file)? {
+            Found::End { length } => Ok(GateLog {
+                file,
+                length,
+                stopped: false,
+            }),
+            Found::Bad { place } => Err(LogFault::BadLog { place }),
+        }
+    }
+
+    /// Appends a body: after `Ok` every crash leaves it. It makes four calls of the disk and takes no memory of its
+    /// own. After a refusal the log has stopped.
+    pub fn append<D: Disk>(&mut self, disk: &mut D, piece: &Piece) -> Result<(), LogFault>
+        requires short { self.old.length ≤ 2 ^ 62 }
+        requires ready { self.old.stopped ≡ false → IsReady self.old (D.seen disk.old) (D.sizes disk.old) (D.images disk.old) }
+        ensures length { OnOk result (self.new ≡ record self.old { length = self.old.length + 5 + length piece.now }) }
+        ensures ready { OnOk result (IsReady self.new (D.seen disk.new) (D.sizes disk.new) (D.images disk.new)) }
+        ensures appended { OnOk result ((bodies : List (List ℕ)) → HasBodies self.old (D.seen disk.old) bodies
+            → HasBodies self.new (D.seen disk.new) (bodies ++ piece.now ∷ [])) }
+        ensures any_moment { self.old.stopped ≡ false → (bodies : List (List ℕ)) → HasBodies self.old (D.seen disk.old) bodies
+            → OnTold (D.seen disk.old self.old.file) (λ _. LeavesOnly D.moment D.images_since disk.old disk.new (λ image. IsBeforeOrAfter bodies piece.now (image self.old.file))) }
+        ensures images_elsewhere { self.old.stopped ≡ false → LeavesOnly D.moment D.images_since disk.old disk.new (IsElsewhereOld self.old.file (D.images disk.old)) }
+        ensures elsewhere { self.old.stopped ≡ false → IsElsewhereUnchanged self.old.file (D.seen disk.old) (D.seen disk.new) (D.sizes disk.old) (D.sizes disk.new) }
+        ensures stopped { self.old.stopped ≡ true → (result ≡ Err LogFault.Stopped) × (self.new ≡ self.old) × (disk.new ≡ disk.old) }
+        ensures answer { self.old.stopped ≡ false → IsDiskAnswer result }
+        ensures stops { OnErr result (self.new ≡ record self.old { stopped = true }) }
+        ensures cause { HasLogCause (D.faults disk.old) (D.faults disk.new) result }
+    {
+        if self.stopped {
+            return Err(LogFault::Stopped);
+        }
+        match append_at(disk, self.file, self.length, piece) {
+            Ok(()) => {
+                self.length += piece.bytes().len() as u64;
+                Ok(())
+            }
+            Err(fault) => {
+                self.stopped = true;
+                Err(fault.into())
+            }
+        }
+    }
+}
+
+// Cuts a file and writes a closed gate.
+fn make_file<D: Disk>(disk: &mut D, file: u32) -> Result<(), DiskFault>
+    ensures ready { OnOk result (IsReady (open_log file 1) (D.seen disk.new) (D.sizes disk.new) (D.images disk.new)) }
+    ensures empty { OnOk result (HasBodies (open_log file 1) (D.seen disk.new) []) }
+    ensures any_moment { LeavesOnly D.moment D.images_since disk.old disk.new (IsMaking file (D.images disk.old)) }
+    ensures elsewhere { IsElsewhereUnchanged file (D.seen disk.old) (D.seen disk.new) (D.sizes disk.old) (D.sizes disk.new) }
+    ensures cause { HasDiskCause (D.faults disk.old) (D.faults disk.new) result }
+{
+    disk.cut(file, 0)?;
+    write_synced(disk, file, 0, &[0])
+}
+
+// Syncs a file and finds where its log ends.
+fn find_end<D: Disk>(disk: &mut D, file: u32) -> Result<Found, DiskFault>
+    ensures found { IfOk result (λ found. OnTold (D.seen disk.old file) (IsFound found)) }
+    ensures ready { IfOk result (λ found. IsEndReady file found (D.seen disk.new) (D.sizes disk.new) (D.images disk.new)) }
+    ensures unchanged { IsUnchanged (D.seen disk.old) (D.seen disk.new) (D.sizes disk.old) (D.sizes disk.new) }
+    ensures any_moment { LeavesOnly D.moment D.images_since disk.old disk.new (D.images disk.old) }
+    ensures cause { HasDiskCause (D.faults disk.old) (D.faults disk.new) result }
+{
+    disk.sync(file)?;
+    let size = disk.length(file)?;
+    end_of(disk, file, size)
 }

@@ -8,6 +8,7 @@
 
 mod gate_log;
 mod piece;
+mod scan;
 mod writes;
 
 pub use gate_log::{GateLog, LogFault};
