@@ -1,4 +1,5 @@
 pub mod Appends
 pub mod Frames
 pub mod Makes
+pub mod Replays
 pub mod Scans

@@ -27,3 +27,10 @@ IsReplayRefusal seen old new into into' Device = (old.stopped ≡ false) × (new
 IsReplayRefusal seen old new into into' Stopped = (old.stopped ≡ true) × (new ≡ old) × (into' ≡ into)
 IsReplayRefusal seen old new into into' (BadLog place) = (old.stopped ≡ false) × (new ≡ old) × (into' ≡ into) × OnTold seen (λ bytes. ⊥)
 IsReplayRefusal seen old new into into' OutOfMemory = (old.stopped ≡ false) × (new ≡ old) × (into' ≡ into)
+
+-- a body that was not read: a disk that tells what it holds is never found to be bad
+abbrev pub IsBodyRefusal : Option (List ℕ) → List ℕ → List ℕ → LogFault → Type 0
+IsBodyRefusal seen into into' Device = ⊤
+IsBodyRefusal seen into into' Stopped = ⊥
+IsBodyRefusal seen into into' (BadLog place) = (into' ≡ into) × OnTold seen (λ bytes. ⊥)
+IsBodyRefusal seen into into' OutOfMemory = into' ≡ into

@@ -9,6 +9,7 @@ ghost use Rattle.mds_out.specs.Disk.{LeavesOnly, IsUnchanged, IsElsewhereUnchang
 ghost use Rattle.mds_out.specs.Known.{OnTold};
 
 use crate::Piece;
+use crate::bodies::body_at;
 use crate::scan::{Found, end_of};
 use crate::writes::{append_at, write_synced};
 use mds_out::{Disk, DiskFault};
@@ -131,6 +132,41 @@ impl GateLog {
                 self.stopped = true;
                 Err(fault.into())
             }
+        }
+    }
+
+    /// Puts the body at a gate into `into`, in place of what was there, and answers the place of the next gate;
+    /// `None` exactly at the end. The place is 0 or an earlier answer. After `Device` the log has stopped; where
+    /// there is no memory for the body nothing has changed.
+    pub fn replay<D: Disk>(&mut self, disk: &mut D, at: u64, into: &mut Vec<u8>) -> Result<Option<u64>, LogFault>
+        requires ready { self.old.stopped ≡ false → IsReady self.old (D.seen disk.old) (D.sizes disk.old) (D.images disk.old) }
+        requires short { self.old.length < 2 ^ 63 }
+        requires within { at < self.old.length }
+        requires gate { self.old.stopped ≡ false → OnTold (D.seen disk.old self.old.file) (IsSomeGate self.old at) }
+        ensures given { IfOk result (λ next. (before after : List (List ℕ)) → OnTold (D.seen disk.old self.old.file) (IsGateAt self.old at before after)
+            → OnTold (D.seen disk.old self.old.file) (IsReplayed self.old before after next into.new.items)) }
+        ensures end { IfOk result (λ next. MatchOption next (at + 1 ≡ self.old.length) (λ place. (at < place) × (place < self.old.length))) }
+        ensures untouched { IfOk result (λ next. next ≡ None → into.new.items ≡ into.old.items) }
+        ensures unchanged { IsUnchanged (D.seen disk.old) (D.seen disk.new) (D.sizes disk.old) (D.sizes disk.new) }
+        ensures crash { AreSame (D.images disk.old) (D.images disk.new) }
+        ensures any_moment { LeavesOnly D.moment D.images_since disk.old disk.new (D.images disk.old) }
+        ensures same { OnOk result (self.new ≡ self.old) }
+        ensures refused { IfErr result (IsReplayRefusal (D.seen disk.old self.old.file) self.old self.new into.old.items into.new.items) }
+        ensures cause { HasLogCause (D.faults disk.old) (D.faults disk.new) result }
+    {
+        if self.stopped {
+            return Err(LogFault::Stopped);
+        }
+        if at + 1 >= self.length {
+            return Ok(None);
+        }
+        match body_at(disk, self.file, self.length, at, into) {
+            Ok(next) => Ok(Some(next)),
+            Err(LogFault::Device) => {
+                self.stopped = true;
+                Err(LogFault::Device)
+            }
+            Err(fault) => Err(fault),
         }
     }
 }

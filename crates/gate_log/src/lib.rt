@@ -6,6 +6,7 @@
 //! and is opened by a write of its own once the body is synced. docs/FORMATS has the file byte by byte.
 #![tactic(auto)]
 
+mod bodies;
 mod gate_log;
 mod piece;
 mod scan;
