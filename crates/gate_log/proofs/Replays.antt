@@ -5,7 +5,8 @@ use Rattle.std.proofs.lemmas.Nat.{from_be_bytes-to_be_bytes_4}
 use Rattle.std.specs.Int.{to_be_bytes, from_be_bytes, w32}
 use Rattle.mds_out.specs.Known.{OnTold}
 use Rattle.gate_log.specs.Log.{framed, log_bytes, log_length, HoldsLog}
-use Rattle.gate_log.specs.LogState.{LogState, IsLogOf}
+use Rattle.gate_log.specs.LogState.{LogState, IsLogOf, IsKept}
+use Rattle.mds_out.specs.Disk.{Image}
 use Rattle.gate_log.specs.Calls.{IsGateAt, IsSomeGate, IsReplayed}
 use Rattle.gate_log.proofs.Frames.{log_bytes-push, longer, length-framed}
 
@@ -106,3 +107,18 @@ ended (Some bytes) log at into before after gate past = ended_bytes log at bytes
 pub ok_from : {T E P : Type 0} (r : Result T E) → OnOk r P → is_err r ≡ false → P
 ok_from (Ok x) p not_err = p
 ok_from (Err e) p not_err = cc
+
+-- ---- gates of a log
+
+pub first_gate : (seen : Option (List ℕ)) (log : LogState) (images : Image → Type 0) → OnTold seen (IsKept log images) → OnTold seen (IsSomeGate log 0)
+first_gate None log images kept = tt
+first_gate (Some bytes) log images kept = record { before = []; after = kept.bodies; at = record { is = kept.is; place_is = refl } }
+
+some_next : (log : LogState) (at n : ℕ) (bytes len : List ℕ) (before after : List (List ℕ)) → IsGateAt log at before after bytes → at + 1 < log.length → len ≡ take 4 (drop (at + 1) bytes) → n ≡ from_be_bytes w32 len → IsSomeGate log (at + 5 + n) bytes
+some_next log at n bytes len before [] gate within read number = absurd (omega (arith, no_body log at before bytes gate))
+some_next log at n bytes len before (body ∷ after) gate within read number =
+    record { before = before ++ body ∷ []; after = after; at = next_gate log at n before after body bytes gate (length_is log at n body bytes len (here log at before after body bytes gate) read number) }
+
+pub next_some : (seen : Option (List ℕ)) (log : LogState) (at n : ℕ) (len : List ℕ) → OnTold seen (IsSomeGate log at) → at + 1 < log.length → OnTold seen (λ bytes. len ≡ take 4 (drop (at + 1) bytes)) → n ≡ from_be_bytes w32 len → OnTold seen (IsSomeGate log (at + 5 + n))
+next_some None log at n len gate within read number = tt
+next_some (Some bytes) log at n len gate within read number = some_next log at n bytes len gate.before gate.after gate.at within read number

@@ -1,5 +1,5 @@
 -- What a refused call of a log leaves.
-use Rattle.std.specs.Prelude.{◌≡◌, ℕ, List, ⊤, Option, true, false}
+use Rattle.std.specs.Prelude.{◌≡◌, ◌<◌, ◌^◌, ℕ, List, ⊤, Option, true, false}
 use Rattle.gate_log.specs.declared.gate_log.LogFault.{LogFault}
 use Rattle.gate_log.specs.declared.gate_log.LogFault.TheVariants.{Device, Stopped, BadLog, OutOfMemory}
 use Rattle.gate_log.specs.declared.scan.Found.{Found}
@@ -34,3 +34,8 @@ IsBodyRefusal seen into into' Device = ⊤
 IsBodyRefusal seen into into' Stopped = ⊥
 IsBodyRefusal seen into into' (BadLog place) = (into' ≡ into) × OnTold seen (λ bytes. ⊥)
 IsBodyRefusal seen into into' OutOfMemory = into' ≡ into
+
+-- a log's length is that of a file
+abbrev pub IsShortEnd : Found → Type 0
+IsShortEnd (End length) = length < 2 ^ 63
+IsShortEnd (Bad place) = ⊤

@@ -18,6 +18,7 @@ pub(crate) fn body_at<D: Disk>(disk: &mut D, file: u32, length: u64, at: u64, in
     requires gate { OnTold (D.seen disk.old file) (IsSomeGate (open_log file length) at) }
     ensures given { IfOk result (λ next. (before after : List (List ℕ)) → OnTold (D.seen disk.old file) (IsGateAt (open_log file length) at before after)
         → OnTold (D.seen disk.old file) (IsReplayed (open_log file length) before after (Some next) into.new.items)) }
+    ensures gate { IfOk result (λ next. OnTold (D.seen disk.new file) (IsSomeGate (open_log file length) next)) }
     ensures onward { IfOk result (λ next. (at < next) × (next < length)) }
     ensures unchanged { IsUnchanged (D.seen disk.old) (D.seen disk.new) (D.sizes disk.old) (D.sizes disk.new) }
     ensures crash { AreSame (D.images disk.old) (D.images disk.new) }

@@ -1,10 +1,11 @@
 //! The log.
-ghost use Rattle.std.specs.Prelude.{◌≡◌, ◌+◌, ◌^◌, ◌<◌, ◌≤◌, ◌++◌, ◌∷◌, [], List, ℕ, Ok, Err, Some, None, true, false, length, IfOk, IfErr, OnOk, OnErr, MatchOption};
+ghost use Rattle.std.specs.Prelude.{◌≡◌, ◌+◌, ◌^◌, ◌<◌, ◌≤◌, ◌++◌, ◌∷◌, [], List, ℕ, Ok, Err, Some, None, true, false, length, IfOk, IfErr, OnOk, OnErr, IfSome, MatchOption};
 ghost use Rattle.gate_log.specs.Calls.{IsDiskAnswer, IsOpenAnswer, IsMaking, IsGateAt, IsSomeGate, IsReplayed};
 ghost use Rattle.gate_log.specs.Found.{IsFound};
 ghost use Rattle.gate_log.specs.Log.{IsBeforeOrAfter};
 ghost use Rattle.gate_log.specs.LogState.{open_log, IsReady, HasBodies, IsElsewhereOld, HasLogCause};
-ghost use Rattle.gate_log.specs.Refusals.{log_fault_of, IsReplayRefusal, IsEndReady};
+ghost use Rattle.gate_log.specs.Refusals.{log_fault_of, IsReplayRefusal, IsEndReady, IsShortEnd};
+ghost use Rattle.gate_log.specs.declared.gate_log.LogFault.TheVariants.{OutOfMemory};
 ghost use Rattle.mds_out.specs.Disk.{LeavesOnly, IsUnchanged, IsElsewhereUnchanged, AreSame, HasDiskCause};
 ghost use Rattle.mds_out.specs.Known.{OnTold};
 
@@ -13,6 +14,7 @@ use crate::bodies::body_at;
 use crate::scan::{Found, end_of};
 use crate::writes::{append_at, write_synced};
 use mds_out::{Disk, DiskFault};
+use std::alloc::AllocError;
 use std::marker::Model;
 
 /// Why a call of a log was refused.
@@ -56,6 +58,14 @@ impl From<DiskFault> for LogFault {
     }
 }
 
+impl From<AllocError> for LogFault {
+    ghost from_gives = { λ _ answer. answer ≡ OutOfMemory };
+
+    fn from(_: AllocError) -> Self {
+        LogFault::OutOfMemory
+    }
+}
+
 impl GateLog {
     /// The bytes of the log, its closed gate included.
     pub fn length(&self) -> u64
@@ -87,6 +97,8 @@ impl GateLog {
     pub fn open_file<D: Disk>(disk: &mut D, file: u32) -> Result<GateLog, LogFault>
         ensures opened { IfOk result (λ log. (log.file ≡ file) × (log.stopped ≡ false)) }
         ensures ready { IfOk result (λ log. IsReady log (D.seen disk.new) (D.sizes disk.new) (D.images disk.new)) }
+        ensures first { IfOk result (λ log. OnTold (D.seen disk.new log.file) (IsSomeGate log 0)) }
+        ensures short { IfOk result (λ log. log.length < 2 ^ 63) }
         ensures unchanged { IsUnchanged (D.seen disk.old) (D.seen disk.new) (D.sizes disk.old) (D.sizes disk.new) }
         ensures any_moment { LeavesOnly D.moment D.images_since disk.old disk.new (D.images disk.old) }
         ensures answer { IsOpenAnswer (D.seen disk.old file) result }
@@ -145,6 +157,7 @@ impl GateLog {
         requires gate { self.old.stopped ≡ false → OnTold (D.seen disk.old self.old.file) (IsSomeGate self.old at) }
         ensures given { IfOk result (λ next. (before after : List (List ℕ)) → OnTold (D.seen disk.old self.old.file) (IsGateAt self.old at before after)
             → OnTold (D.seen disk.old self.old.file) (IsReplayed self.old before after next into.new.items)) }
+        ensures gate { IfOk result (λ next. IfSome next (λ place. OnTold (D.seen disk.new self.old.file) (IsSomeGate self.old place))) }
         ensures end { IfOk result (λ next. MatchOption next (at + 1 ≡ self.old.length) (λ place. (at < place) × (place < self.old.length))) }
         ensures untouched { IfOk result (λ next. next ≡ None → into.new.items ≡ into.old.items) }
         ensures unchanged { IsUnchanged (D.seen disk.old) (D.seen disk.new) (D.sizes disk.old) (D.sizes disk.new) }
@@ -186,6 +199,7 @@ fn make_file<D: Disk>(disk: &mut D, file: u32) -> Result<(), DiskFault>
 // Syncs a file and finds where its log ends.
 fn find_end<D: Disk>(disk: &mut D, file: u32) -> Result<Found, DiskFault>
     ensures found { IfOk result (λ found. OnTold (D.seen disk.old file) (IsFound found)) }
+    ensures short { IfOk result IsShortEnd }
     ensures ready { IfOk result (λ found. IsEndReady file found (D.seen disk.new) (D.sizes disk.new) (D.images disk.new)) }
     ensures unchanged { IsUnchanged (D.seen disk.old) (D.seen disk.new) (D.sizes disk.old) (D.sizes disk.new) }
     ensures any_moment { LeavesOnly D.moment D.images_since disk.old disk.new (D.images disk.old) }
