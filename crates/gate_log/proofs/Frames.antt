@@ -51,12 +51,12 @@ module _ (bodies : List (List ℕ)) (body : List ℕ) where
       let size : length old ≡ length (log_bytes bodies) + (1 + length holds.rest) = omega (arith, ap length holds.split, length-append (log_bytes bodies) (holds.gate ∷ holds.rest)) in
       let kept : take (log_length bodies) new ≡ take (log_length bodies) old = same_front old new (log_length bodies) (omega arith) (omega (arith, torn.no_shorter)) (λ place low. torn.before place low (omega arith)) in
       record {
-          gate = holds.gate;
-          rest = drop (log_length bodies) new;
-          split = sym (take-append-drop (log_length bodies) new) ∙ ap (λ l. l ++ drop (log_length bodies) new) (kept ∙ ap (take (log_length bodies)) holds.split ∙ gate_front (log_bytes bodies) holds.rest holds.gate)
-              ∙ append_assoc (log_bytes bodies) (holds.gate ∷ []) (drop (log_length bodies) new);
-          closed = holds.closed;
-          short = holds.short;
+        gate = holds.gate;
+        rest = drop (log_length bodies) new;
+        split = sym (take-append-drop (log_length bodies) new) ∙ ap (λ l. l ++ drop (log_length bodies) new) (kept ∙ ap (take (log_length bodies)) holds.split ∙ gate_front (log_bytes bodies) holds.rest holds.gate)
+            ∙ append_assoc (log_bytes bodies) (holds.gate ∷ []) (drop (log_length bodies) new);
+        closed = holds.closed;
+        short = holds.short;
       }
 
   -- the file after the first write
@@ -80,20 +80,28 @@ module _ (bodies : List (List ℕ)) (body : List ℕ) where
     where
       place : ℕ
       place = length (log_bytes bodies)
+
       old : List ℕ
       old = log_bytes bodies ++ gate ∷ (framed body ++ 0 ∷ rest)
+
       as_old : staged bodies gate body rest ≡ old
       as_old = staged_is gate rest
+
       tear : IsTorn place 1 old new
       tear = subst (λ l. IsTorn place 1 l new) as_old torn
+
       size : length old ≡ place + (1 + length (framed body ++ 0 ∷ rest))
       size = omega (arith, length-append (log_bytes bodies) (gate ∷ (framed body ++ 0 ∷ rest)))
+
       same : length old ≡ length new
       same = omega (arith, size, tear.no_shorter, tear.no_longer)
+
       head : take place new ≡ log_bytes bodies
       head = same_front old new place (omega (arith, size)) (omega (arith, size, same)) (λ k low. tear.before k low (omega (arith, size))) ∙ take_at (log_bytes bodies) (gate ∷ (framed body ++ 0 ∷ rest)) place refl
+
       tail : drop (place + 1) new ≡ framed body ++ 0 ∷ rest
       tail = same_rest old new (place + 1) same (λ k high here. tear.behind k high here) ∙ ap (drop (place + 1)) (sym (append_assoc (log_bytes bodies) (gate ∷ []) (framed body ++ 0 ∷ rest))) ∙ drop_at (log_bytes bodies ++ gate ∷ []) (framed body ++ 0 ∷ rest) (place + 1) (length-append (log_bytes bodies) (gate ∷ []))
+
       whole : new ≡ staged bodies (get_or new place 0) body rest
       whole = cut_at new place (omega (arith, size, same)) ∙ ap (λ l. l ++ get_or new place 0 ∷ drop (place + 1) new) head ∙ ap (λ l. log_bytes bodies ++ get_or new place 0 ∷ l) tail ∙ sym (staged_is (get_or new place 0) rest)
 

@@ -3,3 +3,4 @@ pub mod Frames
 pub mod Makes
 pub mod Replays
 pub mod Scans
+pub mod Unique

@@ -33,16 +33,22 @@ here log at before after body bytes gate = record { tail = tail; split = split; 
   where
     holds : HoldsLog (before ++ body ∷ after) bytes
     holds = gate.is.holds
+
     tail : List ℕ
     tail = log_bytes after ++ holds.gate ∷ holds.rest
+
     all : log_bytes (before ++ body ∷ after) ≡ log_bytes before ++ ((1 ∷ framed body) ++ log_bytes after)
     all = log_bytes-append before (body ∷ after)
+
     whole : bytes ≡ (log_bytes before ++ 1 ∷ []) ++ (framed body ++ tail)
     whole = holds.split ∙ ap (λ l. l ++ holds.gate ∷ holds.rest) all ∙ regroup (log_bytes before) (framed body) (log_bytes after) (holds.gate ∷ holds.rest)
+
     split : drop (at + 1) bytes ≡ framed body ++ tail
     split = ap (drop (at + 1)) whole ∙ drop_at (log_bytes before ++ 1 ∷ []) (framed body ++ tail) (at + 1) (length-append (log_bytes before) (1 ∷ []) ∙ ap (λ k. k + 1) (sym gate.place_is))
+
     room : at + 6 + length body ≤ log.length
     room = omega (arith, gate.place_is, gate.is.ends, ap length all, length-append (log_bytes before) ((1 ∷ framed body) ++ log_bytes after), length-append (1 ∷ framed body) (log_bytes after), length-framed body)
+
     short : length body < 2 ^ 32
     short = subst (λ b. length b < 2 ^ 32) (get_or_at before body after body (length before) refl) (holds.short (length before) body (omega (arith, length-append before (body ∷ after))))
 
@@ -60,8 +66,8 @@ body_is log at n body bytes is size =
 
 next_gate : (log : LogState) (at n : ℕ) (before after : List (List ℕ)) (body bytes : List ℕ) → IsGateAt log at before (body ∷ after) bytes → n ≡ length body → IsGateAt log (at + 5 + n) (before ++ body ∷ []) after bytes
 next_gate log at n before after body bytes gate size = record {
-    is = subst (λ l. IsLogOf log l bytes) (sym (append_assoc before (body ∷ []) after)) gate.is;
-    place_is = omega (arith, gate.place_is, longer before body);
+  is = subst (λ l. IsLogOf log l bytes) (sym (append_assoc before (body ∷ []) after)) gate.is;
+  place_is = omega (arith, gate.place_is, longer before body);
 }
 
 never_few : (log : LogState) (at : ℕ) (bytes : List ℕ) (before after : List (List ℕ)) → IsGateAt log at before after bytes → at + 1 < log.length → log.length - at < 6 → ⊥

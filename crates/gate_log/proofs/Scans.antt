@@ -53,12 +53,12 @@ framed_at bytes len place n after spelled fits =
 
 pub body_there : (bytes len : List ℕ) (place n : ℕ) → drop place bytes ≡ 1 ∷ drop (place + 1) bytes → len ≡ take 4 (drop (place + 1) bytes) → to_be_bytes w32 n ≡ len → n < 2 ^ 32 → place + 5 + n < length bytes → IsBodyAt place (place + 5 + n) bytes
 body_there bytes len place n opened after spelled small fits = record {
-    body = take n (drop (place + 5) bytes);
-    gate = get_or bytes (place + 5 + n) 0;
-    rest = drop (place + 5 + n + 1) bytes;
-    is = opened ∙ ap (λ l. 1 ∷ l) (framed_at bytes len place n after spelled fits ∙ ap (λ l. framed (take n (drop (place + 5) bytes)) ++ l) (drop_more bytes (place + 5 + n) 0 fits));
-    next_is = ap (λ k. place + 5 + k) (sym (length-take-le n (drop (place + 5) bytes) (omega (arith, length-drop (place + 5) bytes))));
-    short = subst (λ k. k < 2 ^ 32) (sym (length-take-le n (drop (place + 5) bytes) (omega (arith, length-drop (place + 5) bytes)))) small;
+  body = take n (drop (place + 5) bytes);
+  gate = get_or bytes (place + 5 + n) 0;
+  rest = drop (place + 5 + n + 1) bytes;
+  is = opened ∙ ap (λ l. 1 ∷ l) (framed_at bytes len place n after spelled fits ∙ ap (λ l. framed (take n (drop (place + 5) bytes)) ++ l) (drop_more bytes (place + 5 + n) 0 fits));
+  next_is = ap (λ k. place + 5 + k) (sym (length-take-le n (drop (place + 5) bytes) (omega (arith, length-drop (place + 5) bytes))));
+  short = subst (λ k. k < 2 ^ 32) (sym (length-take-le n (drop (place + 5) bytes) (omega (arith, length-drop (place + 5) bytes)))) small;
 }
 
 pub body_at : (seen : Option (List ℕ)) (known : Option ℕ) (size place n : ℕ) (gate len : List ℕ) → ((bytes : List ℕ) → seen ≡ Some bytes → known ≡ Some (length bytes)) → known ≡ Some size → place < size → n < size - place - 5 → n < 2 ^ 32
@@ -78,27 +78,29 @@ scanned_more place next bytes before at = record { bodies = before.bodies ++ at.
   where
     whole : bytes ≡ log_bytes (before.bodies ++ at.body ∷ []) ++ at.gate ∷ at.rest
     whole = before.split ∙ ap (λ l. log_bytes before.bodies ++ l) at.is ∙ sym (append_assoc (log_bytes before.bodies) (1 ∷ framed at.body) (at.gate ∷ at.rest)) ∙ ap (λ l. l ++ at.gate ∷ at.rest) (sym (log_bytes-push before.bodies at.body))
+
     place_is : next ≡ length (log_bytes (before.bodies ++ at.body ∷ []))
     place_is = omega (arith, at.next_is, before.place_is, longer before.bodies at.body)
+
     rest_is : drop next bytes ≡ at.gate ∷ at.rest
     rest_is = ap (drop next) whole ∙ drop_at (log_bytes (before.bodies ++ at.body ∷ [])) (at.gate ∷ at.rest) next (sym place_is)
 
 scanned_end : (place : ℕ) (bytes : List ℕ) → IsScanned place bytes → IsClosedAt place bytes → IsLogEnd (place + 1) bytes
 scanned_end place bytes before at = record {
-    bodies = before.bodies;
-    holds = record { gate = at.gate; rest = at.rest; split = before.split ∙ ap (λ l. log_bytes before.bodies ++ l) at.is; closed = at.closed; short = before.short };
-    length_is = ap (λ k. k + 1) before.place_is;
+  bodies = before.bodies;
+  holds = record { gate = at.gate; rest = at.rest; split = before.split ∙ ap (λ l. log_bytes before.bodies ++ l) at.is; closed = at.closed; short = before.short };
+  length_is = ap (λ k. k + 1) before.place_is;
 }
 
 scanned_bad : (place : ℕ) (bytes : List ℕ) → place < length bytes → IsScanned place bytes → IsLacking (drop place bytes) → IsCutShort bytes place
 scanned_bad place bytes within before lacking = record {
-    bodies = before.bodies;
-    rest = drop place bytes;
-    split = before.split;
-    place_is = before.place_is;
-    lacking = lacking;
-    empty = λ none. absurd (omega (arith, ap length none, length-drop place bytes));
-    short = before.short;
+  bodies = before.bodies;
+  rest = drop place bytes;
+  split = before.split;
+  place_is = before.place_is;
+  lacking = lacking;
+  empty = λ none. absurd (omega (arith, ap length none, length-drop place bytes));
+  short = before.short;
 }
 
 empty_bad : (bytes : List ℕ) → length bytes ≡ 0 → IsCutShort bytes 0

@@ -41,3 +41,11 @@ pub record IsCutShort (file : List ℕ) (place : ℕ) : Type 0 where
 -- the log stands with the new body or without it
 abbrev pub IsBeforeOrAfter : List (List ℕ) → List ℕ → List ℕ → Type 0
 IsBeforeOrAfter bodies body file = HoldsLog bodies file ⊎ HoldsLog (bodies ++ body ∷ []) file
+
+-- A file holds one log at most.
+abbrev pub HoldsOneLog : Type 0
+HoldsOneLog = (bodies others : List (List ℕ)) (file : List ℕ) → HoldsLog bodies file → HoldsLog others file → bodies ≡ others
+
+-- A file that is cut short holds none.
+abbrev pub IsEitherLogOrShort : Type 0
+IsEitherLogOrShort = (bodies : List (List ℕ)) (file : List ℕ) (place : ℕ) → HoldsLog bodies file → IsCutShort file place → ⊥

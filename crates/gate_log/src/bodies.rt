@@ -11,7 +11,13 @@ use crate::scan::{number_of, read_at};
 use mds_out::Disk;
 
 /// Puts the body behind the gate at a place before the log's end into `into`, and answers the next gate's place.
-pub(crate) fn body_at<D: Disk>(disk: &mut D, file: u32, length: u64, at: u64, into: &mut Vec<u8>) -> Result<u64, LogFault>
+pub(crate) fn body_at<D: Disk>(
+    disk: &mut D,
+    file: u32,
+    length: u64,
+    at: u64,
+    into: &mut Vec<u8>,
+) -> Result<u64, LogFault>
     requires ready { IsReady (open_log file length) (D.seen disk.old) (D.sizes disk.old) (D.images disk.old) }
     requires short { length < 2 ^ 63 }
     requires within { at + 1 < length }

@@ -2,7 +2,7 @@
 ghost use Rattle.std.specs.Prelude.{◌≡◌, ◌+◌, ◌^◌, ◌<◌, ◌≤◌, ◌++◌, ◌∷◌, [], List, ℕ, Ok, Err, Some, None, true, false, length, IfOk, IfErr, OnOk, OnErr, IfSome, MatchOption};
 ghost use Rattle.gate_log.specs.Calls.{IsDiskAnswer, IsOpenAnswer, IsMaking, IsGateAt, IsSomeGate, IsReplayed};
 ghost use Rattle.gate_log.specs.Found.{IsFound};
-ghost use Rattle.gate_log.specs.Log.{IsBeforeOrAfter};
+ghost use Rattle.gate_log.specs.Log.{IsBeforeOrAfter, HoldsOneLog, IsEitherLogOrShort};
 ghost use Rattle.gate_log.specs.LogState.{open_log, IsReady, HasBodies, IsElsewhereOld, HasLogCause};
 ghost use Rattle.gate_log.specs.Refusals.{log_fault_of, IsReplayRefusal, IsEndReady, IsShortEnd};
 ghost use Rattle.gate_log.specs.declared.gate_log.LogFault.TheVariants.{OutOfMemory};
@@ -150,7 +150,12 @@ impl GateLog {
     /// Puts the body at a gate into `into`, in place of what was there, and answers the place of the next gate;
     /// `None` exactly at the end. The place is 0 or an earlier answer. After `Device` the log has stopped; where
     /// there is no memory for the body nothing has changed.
-    pub fn replay<D: Disk>(&mut self, disk: &mut D, at: u64, into: &mut Vec<u8>) -> Result<Option<u64>, LogFault>
+    pub fn replay<D: Disk>(
+        &mut self,
+        disk: &mut D,
+        at: u64,
+        into: &mut Vec<u8>,
+    ) -> Result<Option<u64>, LogFault>
         requires ready { self.old.stopped ≡ false → IsReady self.old (D.seen disk.old) (D.sizes disk.old) (D.images disk.old) }
         requires short { self.old.length < 2 ^ 63 }
         requires within { at < self.old.length }
@@ -183,6 +188,13 @@ impl GateLog {
         }
     }
 }
+
+/// The law that makes a log's bodies and `BadLog` exact: a file holds one log at most, and a file that is cut short
+/// holds none.
+pub fn one_log_law()
+    ensures one_log { HoldsOneLog }
+    ensures either { IsEitherLogOrShort }
+{}
 
 // Cuts a file and writes a closed gate.
 fn make_file<D: Disk>(disk: &mut D, file: u32) -> Result<(), DiskFault>

@@ -12,5 +12,8 @@ mod piece;
 mod scan;
 mod writes;
 
-pub use gate_log::{GateLog, LogFault};
+pub use gate_log::{GateLog, LogFault, one_log_law};
 pub use piece::Piece;
+
+#[cfg(test)]
+mod tests;

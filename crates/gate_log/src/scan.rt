@@ -53,7 +53,12 @@ pub(crate) fn end_of<D: Disk>(disk: &mut D, file: u32, size: u64) -> Result<Foun
 }
 
 /// Reads the gate at a place within the file, and the length of its body where it is open.
-pub(crate) fn step_at<D: Disk>(disk: &mut D, file: u32, size: u64, place: u64) -> Result<Step, DiskFault>
+pub(crate) fn step_at<D: Disk>(
+    disk: &mut D,
+    file: u32,
+    size: u64,
+    place: u64,
+) -> Result<Step, DiskFault>
     requires within { place < size }
     requires short { size < 2 ^ 63 }
     requires known { D.sizes disk.old file ≡ Some size }
@@ -78,11 +83,18 @@ pub(crate) fn step_at<D: Disk>(disk: &mut D, file: u32, size: u64, place: u64) -
     if size - place - 5 <= body {
         return Ok(Step::Lacking);
     }
-    Ok(Step::Body { next: place + 5 + body })
+    Ok(Step::Body {
+        next: place + 5 + body,
+    })
 }
 
 /// A read that says of each moment that it changed no image.
-pub(crate) fn read_at<D: Disk>(disk: &mut D, file: u32, at: u64, into: &mut [u8]) -> Result<(), DiskFault>
+pub(crate) fn read_at<D: Disk>(
+    disk: &mut D,
+    file: u32,
+    at: u64,
+    into: &mut [u8],
+) -> Result<(), DiskFault>
     requires short { at + length into.old < 2 ^ 63 }
     requires within { OnTold (D.sizes disk.old file) (λ size. at + length into.old ≤ size) }
     ensures bytes { OnOk result (OnTold (D.seen disk.old file) (λ bytes. into.new ≡ take (length into.old) (drop at bytes))) }

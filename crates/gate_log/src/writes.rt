@@ -9,7 +9,12 @@ use crate::Piece;
 use mds_out::{Disk, DiskFault};
 
 /// Writes bytes and syncs the file. A crash at any moment leaves an image from before, with the write or a part of it.
-pub(crate) fn write_synced<D: Disk>(disk: &mut D, file: u32, at: u64, bytes: &[u8]) -> Result<(), DiskFault>
+pub(crate) fn write_synced<D: Disk>(
+    disk: &mut D,
+    file: u32,
+    at: u64,
+    bytes: &[u8],
+) -> Result<(), DiskFault>
     requires short { at + length bytes.now < 2 ^ 63 }
     requires within { OnTold (D.sizes disk.old file) (λ size. at ≤ size) }
     ensures written { OnOk result (Tells (D.seen disk.old file) (D.seen disk.new file) (λ old new. new ≡ put old at bytes.now)) }
@@ -25,7 +30,12 @@ pub(crate) fn write_synced<D: Disk>(disk: &mut D, file: u32, at: u64, bytes: &[u
 }
 
 /// Appends a piece at the end of a log: four calls of the disk.
-pub(crate) fn append_at<D: Disk>(disk: &mut D, file: u32, end: u64, piece: &Piece) -> Result<(), DiskFault>
+pub(crate) fn append_at<D: Disk>(
+    disk: &mut D,
+    file: u32,
+    end: u64,
+    piece: &Piece,
+) -> Result<(), DiskFault>
     requires short { end ≤ 2 ^ 62 }
     requires ready { IsReady (open_log file end) (D.seen disk.old) (D.sizes disk.old) (D.images disk.old) }
     ensures ready { OnOk result (IsReady (open_log file (end + 5 + length piece.now)) (D.seen disk.new) (D.sizes disk.new) (D.images disk.new)) }

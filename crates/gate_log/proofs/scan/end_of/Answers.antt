@@ -16,10 +16,10 @@ gates-preserved g c =
     let step = rw c.in-Body.is at c.in_ok-step_at.ensures.step in
     let P : Option (List ℕ) → Type 0 = λ seen. OnTold seen (IsBodyAt c.gates.place c.in-Body.next) in
     record {
-        within = onward.1;
-        scanned = more (g.D.Disk.seen c.args.disk.now c.args.file) c.gates.place c.in-Body.next before.scanned (subst P (before.unchanged.bytes c.args.file) step);
-        unchanged = unchanged_twice _ _ _ _ _ _ before.unchanged c.step_at.ensures.unchanged;
-        same = same_twice _ _ _ before.same c.step_at.ensures.crash;
-        moment = both g.D.Disk.moment g.D.Disk.images_since c.args.disk.now c.gates.disk c.step_at.new.disk (g.D.Disk.images c.args.disk.now) (g.D.Disk.images c.gates.disk) (g.D.Disk.images c.args.disk.now) before.moment c.step_at.ensures.any_moment (λ image is. is) before.same.no_other;
-        quiet = c.in_ok-step_at.ensures.cause.kept ∙ before.quiet;
+      within = onward.1;
+      scanned = more (g.D.Disk.seen c.args.disk.now c.args.file) c.gates.place c.in-Body.next before.scanned (subst P (before.unchanged.bytes c.args.file) step);
+      unchanged = unchanged_twice _ _ _ _ _ _ before.unchanged c.step_at.ensures.unchanged;
+      same = same_twice _ _ _ before.same c.step_at.ensures.crash;
+      moment = both g.D.Disk.moment g.D.Disk.images_since c.args.disk.now c.gates.disk c.step_at.new.disk (g.D.Disk.images c.args.disk.now) (g.D.Disk.images c.gates.disk) (g.D.Disk.images c.args.disk.now) before.moment c.step_at.ensures.any_moment (λ image is. is) before.same.no_other;
+      quiet = c.in_ok-step_at.ensures.cause.kept ∙ before.quiet;
     }

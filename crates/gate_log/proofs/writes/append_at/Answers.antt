@@ -22,12 +22,12 @@ returns-clause-appended g c = on_ok_weaker c.write_synced-2.result
 pub returns-clause-ready : goal.returns-clause-ready
 returns-clause-ready g c = on_ok_three c.write_synced-2.result
     (λ second size durable.
-        let first_size = known_after (g.D.Disk.sizes c.args.disk.now c.args.file) (g.D.Disk.sizes c.write_synced.new.disk c.args.file) c.requires.ready.size (λ n. max n (c.args.end + length c.bytes.result.now)) c.requires.ready.known c.in_ok-write_synced.ensures.size in
-        record {
-            size = max (max c.requires.ready.size (c.args.end + length c.bytes.result.now)) (c.args.end - 1 + 1);
-            known = known_after (g.D.Disk.sizes c.write_synced.new.disk c.args.file) (g.D.Disk.sizes c.write_synced-2.new.disk c.args.file) (max c.requires.ready.size (c.args.end + length c.bytes.result.now)) (λ n. max n (c.args.end - 1 + 1)) first_size size;
-            reaches = omega (arith, piece_length c.args.piece.now c.bytes.result.now c.bytes.ensures.bytes);
-            some = omega arith;
-            told = kept_after c.args.file c.args.end c.args.piece.now c.bytes.result.now c.bytes.ensures.bytes (g.D.Disk.seen c.args.disk.now c.args.file) (g.D.Disk.seen c.write_synced.new.disk c.args.file) (g.D.Disk.seen c.write_synced-2.new.disk c.args.file) (g.D.Disk.images c.args.disk.now) (g.D.Disk.images c.write_synced-2.new.disk) (omega (arith, c.bytes.ensures.short)) c.in_ok-write_synced.ensures.written second durable c.requires.ready.told;
-        })
+    let first_size = known_after (g.D.Disk.sizes c.args.disk.now c.args.file) (g.D.Disk.sizes c.write_synced.new.disk c.args.file) c.requires.ready.size (λ n. max n (c.args.end + length c.bytes.result.now)) c.requires.ready.known c.in_ok-write_synced.ensures.size in
+    record {
+      size = max (max c.requires.ready.size (c.args.end + length c.bytes.result.now)) (c.args.end - 1 + 1);
+      known = known_after (g.D.Disk.sizes c.write_synced.new.disk c.args.file) (g.D.Disk.sizes c.write_synced-2.new.disk c.args.file) (max c.requires.ready.size (c.args.end + length c.bytes.result.now)) (λ n. max n (c.args.end - 1 + 1)) first_size size;
+      reaches = omega (arith, piece_length c.args.piece.now c.bytes.result.now c.bytes.ensures.bytes);
+      some = omega arith;
+      told = kept_after c.args.file c.args.end c.args.piece.now c.bytes.result.now c.bytes.ensures.bytes (g.D.Disk.seen c.args.disk.now c.args.file) (g.D.Disk.seen c.write_synced.new.disk c.args.file) (g.D.Disk.seen c.write_synced-2.new.disk c.args.file) (g.D.Disk.images c.args.disk.now) (g.D.Disk.images c.write_synced-2.new.disk) (omega (arith, c.bytes.ensures.short)) c.in_ok-write_synced.ensures.written second durable c.requires.ready.told;
+    })
     c.write_synced-2.ensures.written c.write_synced-2.ensures.size c.write_synced-2.ensures.durable
