@@ -1,14 +1,13 @@
 -- The two writes of an append on a disk that may tell what it holds.
-use Rattle.std.proofs.Common.{◌≡◌, ◌≢◌, ◌⊎◌, inl, inr, ℕ, ◌+◌, ◌-◌, ◌<◌, ◌≤◌, ◌^◌, max, List, [], ◌∷◌, ◌++◌, length, drop, Option, None, Some, Result, Ok, Err, OnOk, refl, sym, ◌∙◌, ap, subst, arith, false, All, length-append}
-use Rattle.std.specs.Int.{to_be_bytes, w32}
-use Rattle.mds_out.specs.Disk.{Image, Tells, ChangesOne, LeavesOnly, Elapses, Follows, put}
+use Rattle.std.proofs.Common.{◌≡◌, inl, ℕ, ◌+◌, ◌-◌, ◌<◌, ◌^◌, List, [], ◌∷◌, ◌++◌, length, drop, Option, None, Some, Result, Ok, Err, OnOk, refl, ◌∙◌, ap, subst, arith, length-append}
+use Rattle.mds_out.specs.Disk.{Image, Tells, LeavesOnly, Elapses, Follows, put}
 use Rattle.mds_out.specs.Images.{IsTorn}
 use Rattle.mds_out.specs.Known.{OnKnown, OnTold}
 use Rattle.mds_out.proofs.Moments.{leaves_weaker, both, started, goes_on}
 use Rattle.mds_out.proofs.Acts.{untouched_torn}
 use Rattle.gate_log.specs.Log.{framed, log_bytes, log_length, HoldsLog, IsBeforeOrAfter}
 use Rattle.gate_log.specs.LogState.{IsWrittenOver, IsKept, IsLogOf, open_log}
-use Rattle.gate_log.proofs.Frames.{torn_behind, written_behind, holds_staged, holds_opened, torn_gate, written_gate, longer, staged, length-framed}
+use Rattle.gate_log.proofs.Frames.{torn_behind, written_behind, holds_opened, torn_gate, written_gate, longer, staged, length-framed}
 
 module _ (file end : ℕ) (bodies : List (List ℕ)) (body written : List ℕ) (is : written ≡ framed body ++ 0 ∷ []) where
   first_image : (bytes : List ℕ) (images : Image → Type 0) → IsLogOf (open_log file end) bodies bytes → ((image : Image) → images image → image file ≡ bytes) → (image : Image) → IsWrittenOver file end (length written) images image → HoldsLog bodies (image file)

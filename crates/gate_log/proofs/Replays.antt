@@ -1,14 +1,14 @@
 -- The body at a gate of a log, by the bytes that were read there.
-use Rattle.std.proofs.Common.{◌≡◌, ◌≢◌, ◌⊎◌, ℕ, ◌+◌, ◌-◌, ◌<◌, ◌≤◌, ◌^◌, List, [], ◌∷◌, ◌++◌, length, get_or, take, drop, Option, None, Some, Result, Ok, Err, OnOk, is_err, false, All, refl, sym, ◌∙◌, ap, subst, arith, append_assoc, length-append, length-drop}
+use Rattle.std.proofs.Common.{◌≡◌, ℕ, ◌+◌, ◌-◌, ◌<◌, ◌≤◌, ◌^◌, List, [], ◌∷◌, ◌++◌, length, take, drop, Option, None, Some, Result, Ok, Err, OnOk, is_err, false, refl, sym, ◌∙◌, ap, subst, arith, append_assoc, length-append}
 use Rattle.std.proofs.lemmas.List.{take_at, drop_at, drop-drop, append-nil, get_or_at}
 use Rattle.std.proofs.lemmas.Nat.{from_be_bytes-to_be_bytes_4}
 use Rattle.std.specs.Int.{to_be_bytes, from_be_bytes, w32}
 use Rattle.mds_out.specs.Known.{OnTold}
-use Rattle.gate_log.specs.Log.{framed, log_bytes, log_length, HoldsLog}
+use Rattle.gate_log.specs.Log.{framed, log_bytes, HoldsLog}
 use Rattle.gate_log.specs.LogState.{LogState, IsLogOf, IsKept}
 use Rattle.mds_out.specs.Disk.{Image}
 use Rattle.gate_log.specs.Calls.{IsGateAt, IsSomeGate, IsReplayed}
-use Rattle.gate_log.proofs.Frames.{log_bytes-push, longer, length-framed}
+use Rattle.gate_log.proofs.Frames.{longer, length-framed}
 
 log_bytes-append : (before after : List (List ℕ)) → log_bytes (before ++ after) ≡ log_bytes before ++ log_bytes after
 log_bytes-append [] after = refl

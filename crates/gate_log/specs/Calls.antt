@@ -1,10 +1,10 @@
 -- What the calls of a log answer.
-use Rattle.std.specs.Prelude.{◌≡◌, ◌≢◌, ◌+◌, ◌<◌, ◌≤◌, ℕ, max, List, [], ◌∷◌, ◌++◌, length, Option, None, Some, Result, Ok, Err, ⊤}
+use Rattle.std.specs.Prelude.{◌≡◌, ◌≢◌, ◌≤◌, ℕ, max, List, [], ◌∷◌, ◌++◌, length, Option, None, Some, Result, Ok, Err, ⊤}
 use Rattle.gate_log.specs.declared.gate_log.LogFault.{LogFault}
 use Rattle.gate_log.specs.declared.gate_log.LogFault.TheVariants.{Device, Stopped, BadLog, OutOfMemory}
-use Rattle.gate_log.specs.Log.{log_bytes, HoldsLog, IsCutShort}
+use Rattle.gate_log.specs.Log.{log_bytes, IsCutShort}
 use Rattle.gate_log.specs.LogState.{LogState, IsLogOf}
-use Rattle.mds_out.specs.Disk.{Image, Contents}
+use Rattle.mds_out.specs.Disk.{Image}
 use Rattle.mds_out.specs.Known.{OnTold}
 
 -- a refusal is the disk's: it failed or found no memory

@@ -1,8 +1,8 @@
 -- An open log, and what the disk owes it.
-use Rattle.std.specs.Prelude.{◌≡◌, ◌≢◌, ◌+◌, ◌≤◌, ◌<◌, max, ℕ, Bool, true, false, List, [], ◌∷◌, ◌++◌, length, Option, Some, Result, Ok, Err, OnOk, OnErr, IsErrOf}
+use Rattle.std.specs.Prelude.{◌≡◌, ◌≢◌, ◌≤◌, ℕ, Bool, true, false, List, length, Some, Result, Ok, Err, OnOk, IsErrOf}
 use Rattle.gate_log.specs.declared.gate_log.LogFault.{LogFault}
 use Rattle.gate_log.specs.declared.gate_log.LogFault.TheVariants.{Device, Stopped, BadLog, OutOfMemory}
-use Rattle.gate_log.specs.Log.{HoldsLog, log_length, log_bytes}
+use Rattle.gate_log.specs.Log.{HoldsLog, log_length}
 use Rattle.mds_out.specs.Disk.{Image, Contents, Lengths, ChangesOne}
 use Rattle.mds_out.specs.Images.{IsTorn}
 use Rattle.mds_out.specs.Fault.{Rose}

@@ -1,5 +1,5 @@
 -- What stands at the place of a gate.
-use Rattle.std.specs.Prelude.{◌≡◌, ◌≢◌, ◌+◌, ◌<◌, ◌^◌, ℕ, List, [], ◌∷◌, ◌++◌, length, drop, ⊤}
+use Rattle.std.specs.Prelude.{◌≡◌, ◌≢◌, ◌+◌, ◌<◌, ◌^◌, ℕ, List, ◌∷◌, ◌++◌, length, drop, ⊤}
 use Rattle.gate_log.specs.declared.scan.Step.{Step}
 use Rattle.gate_log.specs.declared.scan.Step.TheVariants.{Closed, Body, Lacking}
 use Rattle.gate_log.specs.Log.{framed, IsLacking}

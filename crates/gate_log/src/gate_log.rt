@@ -169,6 +169,7 @@ impl GateLog {
         ensures crash { AreSame (D.images disk.old) (D.images disk.new) }
         ensures any_moment { LeavesOnly D.moment D.images_since disk.old disk.new (D.images disk.old) }
         ensures same { OnOk result (self.new ≡ self.old) }
+        ensures ready { self.new.stopped ≡ false → IsReady self.new (D.seen disk.new) (D.sizes disk.new) (D.images disk.new) }
         ensures refused { IfErr result (IsReplayRefusal (D.seen disk.old self.old.file) self.old self.new into.old.items into.new.items) }
         ensures cause { HasLogCause (D.faults disk.old) (D.faults disk.new) result }
     {

@@ -9,9 +9,28 @@ use std::test::Fail;
 // The worked log: one body of 14 bytes.
 const WORKED: [u8; 20] = [1, 0, 0, 0, 14, 4, 0, 0, 0, 0, 0, 0, 0, 1, 0, 0, 0, 0, 0, 0];
 
+// Opens the log of file 1: whether the second body is there behind the first.
+fn has_second<D: Disk>(alloc: Global, disk: &mut D) -> Result<bool, LogFault> {
+    let mut log = GateLog::open_file(disk, 1)?;
+    let mut body = Vec::new(alloc);
+    let Some(gate) = log.replay(disk, 0, &mut body)? else {
+        return Err(LogFault::BadLog { place: 0 });
+    };
+    if body.as_slice() != b"one".as_slice() {
+        return Err(LogFault::BadLog { place: 0 });
+    }
+    match log.replay(disk, gate, &mut body)? {
+        Some(end) if body.as_slice() == b"two".as_slice() && end + 1 == log.length() => Ok(true),
+        Some(_) => Err(LogFault::BadLog { place: gate }),
+        None => Ok(false),
+    }
+}
+
 // Appends a second body with this many calls of the disk allowed, and opens the log after a crash: whether the
 // append was acknowledged, and whether the body is there.
-fn append_cut_short(alloc: Global, outcome: Outcome, calls: u64) -> Result<(bool, bool), LogFault> {
+fn append_cut_short(alloc: Global, outcome: Outcome, calls: u64) -> Result<(bool, bool), LogFault>
+    requires { calls < 2 ^ 32 }
+{
     let mut disk = Fuse::new(Memory::new(alloc, outcome, Vec::new(alloc))?);
     disk.arm(7 + calls);
     let mut log = GateLog::create(&mut disk, 1)?;
@@ -19,22 +38,8 @@ fn append_cut_short(alloc: Global, outcome: Outcome, calls: u64) -> Result<(bool
     let acknowledged = log.append(&mut disk, &Piece::of(alloc, b"two")?).is_ok();
     disk.mend();
     disk.restart()?;
-    let mut log = GateLog::open_file(&mut disk, 1)?;
-    let mut body = Vec::new(alloc);
-    let Some(gate) = log.replay(&mut disk, 0, &mut body)? else {
-        return Err(LogFault::BadLog { place: 0 });
-    };
-    if body.as_slice() != b"one".as_slice() {
-        return Err(LogFault::BadLog { place: 0 });
-    }
-    match log.replay(&mut disk, gate, &mut body)? {
-        Some(end) if body.as_slice() == b"two".as_slice() && end + 1 == log.length() => Ok((
-            acknowledged,
-            true,
-        )),
-        Some(_) => Err(LogFault::BadLog { place: gate }),
-        None => Ok((acknowledged, false)),
-    }
+    let kept = has_second(alloc, &mut disk)?;
+    Ok((acknowledged, kept))
 }
 
 #[test]

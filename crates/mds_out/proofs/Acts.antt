@@ -1,7 +1,7 @@
 -- The files, images and moments of a disk in memory, one act later.
-use Rattle.std.proofs.Common.{◌≡◌, ◌≢◌, ◌⊎◌, inl, inr, ⊎_elim, ℕ, zero, suc, ◌+◌, ◌-◌, ◌<◌, ◌≤◌, min, max, List, [], ◌∷◌, ◌++◌, length, get_or, take, drop, map, fold, true, false, Bool, cond, nat_eq, Some, refl, sym, ◌∙◌, ap, subst, arith, length-append}
+use Rattle.std.proofs.Common.{◌≡◌, ◌≢◌, inl, inr, ⊎_elim, ℕ, ◌+◌, ◌<◌, ◌≤◌, max, List, [], ◌∷◌, ◌++◌, length, map, true, false, cond, nat_eq, refl, sym, ◌∙◌, ap, subst, arith, length-append}
 use Rattle.std.proofs.lemmas.Bool.{cases_lt, cases_eq}
-use Rattle.std.proofs.lemmas.List.{take_all, take-append-le, map-append, length-take, length-take-le, get_or_append_left, get_or-append_right, get_or-take, get_or-drop}
+use Rattle.std.proofs.lemmas.List.{take_all, take-append-le, map-append}
 use Rattle.std.proofs.lemmas.Grind.{same_number_lists}
 use Rattle.std.proofs.lemmas.List.Sums.{fold-append}
 use Rattle.mds_out.specs.declared.act.Act.{Act}
@@ -11,10 +11,10 @@ use Rattle.mds_out.specs.declared.change.Change.TheVariants.{Write, Cut}
 use Rattle.mds_out.specs.declared.slots.Slot.{Slot}
 use Rattle.mds_out.specs.declared.outcome.Outcome.{Outcome}
 use Rattle.mds_out.specs.declared.outcome.Outcome.TheVariants.{Old, New, Mixed}
-use Rattle.mds_out.specs.Change.{changed, redone, step_of, half_written}
-use Rattle.mds_out.specs.Content.{Content, at_rest, bytes_of, left_of, replayed, with_change, history}
-use Rattle.mds_out.specs.Disk.{Image, Elapses, Follows, ChangesOne, put}
-use Rattle.mds_out.specs.Images.{History, IsImage, Reaches, Step, Writes, Cuts, history_at_sync, history_of, history_after, IsLed, AreLed, IsTorn, IsShortened}
+use Rattle.mds_out.specs.Change.{changed, step_of}
+use Rattle.mds_out.specs.Content.{Content, at_rest, bytes_of, left_of, with_change, history}
+use Rattle.mds_out.specs.Disk.{Image, Elapses, Follows, put}
+use Rattle.mds_out.specs.Images.{History, IsImage, Reaches, Step, Writes, Cuts, history_at_sync, history_of, history_after, IsLed, IsTorn, IsShortened}
 use Rattle.mds_out.specs.Past.{acted, content_of, IsPastImage, IsImageSince}
 use Rattle.mds_out.specs.Slots.{HoldPast, HaveActed}
 use Rattle.mds_out.specs.ImageLaws.{synced_image}

@@ -1,13 +1,12 @@
 -- What a disk in memory owes to the clauses of each disk, by what a call did to its past.
-use Rattle.std.proofs.Common.{◌≡◌, ◌⊎◌, inl, inr, ⊎_elim, ℕ, ◌≤◌, List, [], ◌∷◌, ◌++◌, length, Some, Result, Ok, Err, refl, sym, ◌∙◌, ap, subst, OnOk, OnErr}
+use Rattle.std.proofs.Common.{◌≡◌, ◌⊎◌, inl, inr, ⊎_elim, ℕ, ◌≤◌, List, length, Some, Result, Ok, Err, refl, sym, ◌∙◌, ap, subst}
 use Rattle.mds_out.specs.declared.act.Act.{Act}
 use Rattle.mds_out.specs.declared.act.Act.TheVariants.{Changed, Synced, Restarted}
 use Rattle.mds_out.specs.declared.change.Change.TheVariants.{Write, Cut}
 use Rattle.mds_out.specs.declared.disk.DiskFault.{DiskFault}
 use Rattle.mds_out.specs.Content.{bytes_of, left_of}
-use Rattle.mds_out.specs.Disk.{Image, Follows, ChangesOne, Shows}
+use Rattle.mds_out.specs.Disk.{Image, Follows, Shows}
 use Rattle.mds_out.specs.Images.{IsTorn, IsShortened}
-use Rattle.mds_out.specs.Known.{OnTold}
 use Rattle.mds_out.specs.Past.{Past, content_of, IsPastImage, IsDone, with_act, counted}
 use Rattle.mds_out.proofs.Acts.{write_follows, cut_follows, untouched_torn, uncut_shortened, sync_durable, sync_images, restart_left, restart_shows, restart_images}
 

@@ -1,11 +1,11 @@
 -- The local clauses of a disk and the definition of its crash images, each from the other.
-use Rattle.std.proofs.Common.{◌≡◌, ◌⊎◌, inl, inr, ⊎_elim, ℕ, ◌+◌, ◌-◌, ◌<◌, ◌≤◌, min, max, List, [], ◌∷◌, ◌++◌, length, get_or, map, take, drop, Bool, true, false, cond, nat_lt, nat_le, ◌&&◌, refl, sym, ◌∙◌, ap, subst, arith}
+use Rattle.std.proofs.Common.{◌≡◌, inl, inr, ⊎_elim, ℕ, ◌+◌, ◌<◌, ◌≤◌, min, max, List, ◌∷◌, length, get_or, map, cond, nat_lt, nat_le, sym, ◌∙◌, arith}
 use Rattle.std.proofs.lemmas.List.FromFn.{length-map-range_with_len, get_or-map-range_with_len}
 use Rattle.std.proofs.lemmas.Bool.{cases_lt}
 use Rattle.std.proofs.lemmas.Bool.Decides.{nat_tests}
 use Rattle.std.specs.List.{range_with_len}
-use Rattle.mds_out.specs.ImageLaws.{synced_image, step_image, steps_image}
-use Rattle.mds_out.specs.Images.{History, IsImage, IsTouched, Step, Writes, Cuts, history_after, history_of, history_at_sync, IsTorn, IsShortened, IsLed, AreLed, Reaches, StepsGiveImages, ImagesComeByStep}
+use Rattle.mds_out.specs.ImageLaws.{synced_image, steps_image}
+use Rattle.mds_out.specs.Images.{History, IsImage, IsTouched, Writes, Cuts, history_after, history_at_sync, IsTorn, IsShortened, StepsGiveImages, ImagesComeByStep}
 
 pub steps_give_images : StepsGiveImages
 steps_give_images synced steps image led = steps_image (history_at_sync synced) steps synced image (synced_image synced) led

@@ -1,6 +1,6 @@
 -- A call that the fuse refused.
-use Rattle.std.proofs.Common.{◌≡◌, ℕ, ◌+◌, ◌-◌, ◌^◌, ◌<◌, ◌≤◌, min, Some, None, Option, Err, refl, sym, subst, arith}
-use Rattle.mds_out.specs.declared.disk.DiskFault.TheVariants.{Device, OutOfMemory}
+use Rattle.std.proofs.Common.{◌≡◌, ℕ, ◌+◌, ◌-◌, ◌^◌, ◌<◌, min, Some, None, Option, Err, refl, sym, subst, arith}
+use Rattle.mds_out.specs.declared.disk.DiskFault.TheVariants.{Device}
 use Rattle.mds_out.specs.Disk.{Contents, Lengths, HasDiskCause, IsUnchanged}
 use Rattle.mds_out.specs.Fused.{Fused, fused_faults}
 use Rattle.mds_out.specs.Known.{OnTold}

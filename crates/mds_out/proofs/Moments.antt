@@ -1,6 +1,6 @@
 -- How a run of device calls goes on, for a caller that speaks of each moment of it.
-use Rattle.std.proofs.Common.{◌≡◌, ◌⊎◌, inl, inr, ⊎_elim, ℕ, ◌≤◌, List, sym, ◌∙◌, arith}
-use Rattle.mds_out.specs.Disk.{Image, Elapses, Follows, ChangesOne, LeavesOnly}
+use Rattle.std.proofs.Common.{inl, inr, ⊎_elim, ℕ, arith}
+use Rattle.mds_out.specs.Disk.{Image, Elapses, LeavesOnly}
 
 module _ {D : Type 0} (moment : D → ℕ) (since : D → ℕ → Image → Type 0) where
   -- before the first call

@@ -1,15 +1,14 @@
 -- The two buffers of a file in memory through a change, a sync and a restart.
-use Rattle.std.proofs.Common.{◌≡◌, ◌⊎◌, ℕ, ◌+◌, ◌-◌, ◌<◌, ◌≤◌, min, max, List, [], ◌∷◌, ◌++◌, length, take, drop, true, false, refl, sym, ◌∙◌, ap, subst, arith, append_assoc, length-append, length-drop, fold, All}
-use Rattle.std.proofs.lemmas.List.{take_at, take_all, drop_all, append-nil, take-take, length-take, length-take-le}
+use Rattle.std.proofs.Common.{◌≡◌, ℕ, ◌≤◌, List, [], ◌∷◌, ◌++◌, length, take, drop, true, false, refl, sym, ◌∙◌, ap, subst, arith, All}
+use Rattle.std.proofs.lemmas.List.{take_all, drop_all, append-nil, take-take, length-take, length-take-le}
 use Rattle.std.proofs.lemmas.List.Sums.{fold-append}
 use Rattle.std.proofs.lemmas.List.Elements.{All-push}
 use Rattle.mds_out.specs.declared.change.Change.{Change}
 use Rattle.mds_out.specs.declared.change.Change.TheVariants.{Write, Cut}
 use Rattle.mds_out.specs.declared.outcome.Outcome.{Outcome}
 use Rattle.mds_out.specs.declared.outcome.Outcome.TheVariants.{Old, New, Mixed}
-use Rattle.mds_out.specs.Disk.{put}
 use Rattle.mds_out.specs.Change.{changed, redone, change_end, half_written}
-use Rattle.mds_out.specs.Content.{Content, bytes_of, left_of, replayed}
+use Rattle.mds_out.specs.Content.{left_of, replayed}
 use Rattle.mds_out.specs.FileRooms.{HasRooms}
 use Rattle.mds_out.specs.ContentLaws.{half_length, put_length}
 

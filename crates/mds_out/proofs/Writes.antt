@@ -1,6 +1,6 @@
 -- Writes into a buffer of which a front counts.
-use Rattle.std.proofs.Common.{◌≡◌, ◌⊎◌, ⊎_elim, ℕ, ◌+◌, ◌-◌, ◌/◌, ◌<◌, ◌≤◌, min, max, List, [], ◌∷◌, ◌++◌, length, take, drop, refl, sym, ◌∙◌, ap, subst, arith, append_assoc, length-append, replicate}
-use Rattle.std.proofs.lemmas.List.{take_at, take_all, take-take, drop_all, drop-take, append-nil, length-take-le, length-replicate, length-drop, length-take}
+use Rattle.std.proofs.Common.{◌≡◌, ⊎_elim, ℕ, ◌+◌, ◌-◌, ◌/◌, ◌<◌, ◌≤◌, min, max, List, [], ◌++◌, length, take, drop, refl, sym, ◌∙◌, ap, subst, arith, append_assoc, length-append, replicate}
+use Rattle.std.proofs.lemmas.List.{take_at, take_all, take-take, drop_all, drop-take, append-nil, length-take-le, length-replicate, length-drop}
 use Rattle.std.proofs.lemmas.Slice.{put_mid-paste, drop-put_mid, take-put_mid}
 use Rattle.std.proofs.lemmas.Bool.{cases_lt}
 use Rattle.std.proofs.Math.Seq.{take-append-add}

@@ -1,5 +1,5 @@
 -- What a file of a memory disk is: the bytes that its last sync left, and the changes since.
-use Rattle.std.specs.Prelude.{ℕ, List, [], ◌∷◌, ◌++◌, map, fold, length, true, false, Bool}
+use Rattle.std.specs.Prelude.{ℕ, List, [], ◌∷◌, ◌++◌, map, fold, true, false, Bool}
 use Rattle.mds_out.specs.declared.change.Change.{Change}
 use Rattle.mds_out.specs.Change.{changed, redone, step_of}
 use Rattle.mds_out.specs.Images.{History, history_at_sync, history_of}

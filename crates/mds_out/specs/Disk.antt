@@ -3,7 +3,7 @@ use Rattle.std.specs.Prelude.{◌≡◌, ◌≢◌, ◌⊎◌, ℕ, ◌+◌, ◌
 use Rattle.mds_out.specs.declared.disk.DiskFault.{DiskFault}
 use Rattle.mds_out.specs.declared.disk.DiskFault.TheVariants.{Device, OutOfMemory}
 use Rattle.mds_out.specs.Fault.{Rose}
-use Rattle.mds_out.specs.Known.{OnKnown, OnTold}
+use Rattle.mds_out.specs.Known.{OnTold}
 
 -- a content for each file, by its number
 abbrev pub Image : Type 0

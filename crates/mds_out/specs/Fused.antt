@@ -1,5 +1,5 @@
 -- What a fuse round a disk is: the disk, how many calls still pass where it is armed, and how many it refused.
-use Rattle.std.specs.Prelude.{◌≡◌, ℕ, ◌+◌, ◌-◌, ◌^◌, min, Option, None, Some, Result, Bool, true, false, if◌then◌else◌, ◌==◌, MatchBool}
+use Rattle.std.specs.Prelude.{◌≡◌, ℕ, ◌+◌, ◌-◌, ◌^◌, min, Option, None, Some, Result, Bool, true, false, ◌==◌, MatchBool}
 use Rattle.mds_out.specs.declared.disk.DiskFault.{DiskFault}
 use Rattle.mds_out.specs.Past.{is_device}
 

@@ -2,7 +2,6 @@
 use Rattle.std.specs.Prelude.{◌≡◌, ◌≤◌, ℕ, Bool, true, false, List, [], ◌∷◌, ◌++◌, length, take, fold, ◌==◌, if◌then◌else◌, Result, Ok, Err, OnOk, OnErr}
 use Rattle.mds_out.specs.declared.act.Act.{Act}
 use Rattle.mds_out.specs.declared.act.Act.TheVariants.{Changed, Synced, Restarted}
-use Rattle.mds_out.specs.declared.change.Change.{Change}
 use Rattle.mds_out.specs.declared.disk.DiskFault.{DiskFault}
 use Rattle.mds_out.specs.declared.disk.DiskFault.TheVariants.{Device, OutOfMemory}
 use Rattle.mds_out.specs.declared.outcome.Outcome.{Outcome}

@@ -1,4 +1,4 @@
-use Rattle.std.proofs.Common.{◌≡◌, ◌+◌, ◌++◌, List, ℕ, Option, take, drop, length, Some, subst, refl, sym, ap, ◌∙◌, arith, rules}
+use Rattle.std.proofs.Common.{◌≡◌, ◌+◌, ◌++◌, List, ℕ, Option, take, drop, length, Some, subst, refl, sym, ◌∙◌, rules}
 use Rattle.mds_out.specs.Known.{OnTold}
 use Rattle.mds_out.proofs.Rooms.{lent_whole}
 use Rattle.gate_log.specs.Calls.{IsReplayed, IsSomeGate}

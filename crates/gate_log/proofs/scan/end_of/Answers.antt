@@ -1,8 +1,7 @@
-use Rattle.std.proofs.Common.{◌≡◌, ◌<◌, ◌∙◌, List, ℕ, Option, subst, arith}
+use Rattle.std.proofs.Common.{◌∙◌, List, ℕ, Option, subst}
 use Rattle.mds_out.specs.Known.{OnTold}
 use Rattle.mds_out.proofs.Moments.{both}
-use Rattle.gate_log.specs.Steps.{IsStep, IsOnward, IsBodyAt}
-use Rattle.gate_log.specs.declared.scan.Step.TheVariants.{Body}
+use Rattle.gate_log.specs.Steps.{IsBodyAt}
 use Rattle.gate_log.proofs.Scans.{more, none, unchanged_twice, same_twice}
 use Rattle.gate_log.proofs.scan.end_of.Goals as goal
 

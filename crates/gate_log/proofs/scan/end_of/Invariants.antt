@@ -1,4 +1,4 @@
-use Rattle.std.proofs.Common.{◌≡◌, ◌-◌, ◌<◌, ℕ, Some}
+use Rattle.std.proofs.Common.{◌≡◌, ◌-◌, ◌<◌}
 use Rattle.mds_out.specs.Known.{OnTold}
 use Rattle.mds_out.specs.Disk.{IsUnchanged, AreSame, LeavesOnly}
 use Rattle.gate_log.specs.Found.{IsScanned}

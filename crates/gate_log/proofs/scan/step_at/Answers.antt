@@ -1,4 +1,4 @@
-use Rattle.std.proofs.Common.{◌≡◌, ◌+◌, ◌<◌, ◌^◌, List, ℕ, Option, take, drop, subst, arith}
+use Rattle.std.proofs.Common.{◌≡◌, ◌+◌, List, ℕ, Option, take, drop, subst}
 use Rattle.mds_out.specs.Known.{OnTold}
 use Rattle.gate_log.proofs.Scans.{lacks_length, lacks_body, body_at}
 use Rattle.gate_log.proofs.scan.step_at.Goals as goal

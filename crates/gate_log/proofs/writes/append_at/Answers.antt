@@ -1,6 +1,5 @@
-use Rattle.std.proofs.Common.{◌≡◌, ◌+◌, ◌-◌, ◌++◌, ◌∷◌, [], length, max, ◌<◌, ◌^◌, ap, arith}
+use Rattle.std.proofs.Common.{◌+◌, ◌-◌, length, max, arith}
 use Rattle.std.proofs.lemmas.Result.{on_ok_weaker}
-use Rattle.gate_log.specs.Log.{framed}
 use Rattle.gate_log.proofs.Appends.{after_first, after_both, appended, kept_after, known_after, on_ok_three, piece_length}
 use Rattle.gate_log.proofs.writes.append_at.Goals as goal
 

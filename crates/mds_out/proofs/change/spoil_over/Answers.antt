@@ -1,4 +1,4 @@
-use Rattle.std.proofs.Common.{◌≡◌, ◌+◌, ◌-◌, ◌/◌, ◌≤◌, max, length, take, replicate, arith, refl, ap, ◌∙◌, rules}
+use Rattle.std.proofs.Common.{◌≡◌, ◌+◌, ◌-◌, ◌/◌, max, length, take, replicate, arith, refl, ap, ◌∙◌, rules}
 use Rattle.mds_out.proofs.Writes.{spoilt_mid, part_length}
 use Rattle.std.proofs.lemmas.List.{length-take-le}
 use Rattle.mds_out.proofs.change.spoil_over.Goals as goal

@@ -1,4 +1,4 @@
-use Rattle.std.proofs.Common.{◌≡◌, ◌+◌, ◌-◌, ◌≤◌, max, length, take, arith, refl, ap, ◌∙◌, rules}
+use Rattle.std.proofs.Common.{◌≡◌, ◌+◌, ◌-◌, max, length, take, arith, refl, ap, ◌∙◌, rules}
 use borrow.Rule.Slice.PartMut.{put_mid}
 use Rattle.mds_out.proofs.Writes.{written_mid}
 use Rattle.mds_out.proofs.change.write_over.Goals as goal

@@ -1,5 +1,4 @@
-use Rattle.std.proofs.Common.{◌≡◌, length, ap, sym, ◌∙◌, rules}
-use Rattle.mds_out.specs.declared.slots.Slot.{Slot}
+use Rattle.std.proofs.Common.{length, ap, sym, ◌∙◌}
 use Rattle.mds_out.specs.Content.{Content, bytes_of}
 use Rattle.mds_out.proofs.Places.{first_is, none_is}
 use Rattle.mds_out.proofs.slots.length_of.Goals as goal

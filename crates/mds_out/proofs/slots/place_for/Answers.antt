@@ -1,4 +1,4 @@
-use Rattle.std.proofs.Common.{◌≡◌, ◌++◌, ◌∷◌, [], List, rules, sym, subst, ap, ◌∙◌}
+use Rattle.std.proofs.Common.{◌≡◌, ◌++◌, ◌∷◌, [], List, rules, ap, ◌∙◌}
 use Rattle.mds_out.specs.declared.slots.Slot.{Slot}
 use Rattle.mds_out.specs.Slots.{content_in}
 use Rattle.mds_out.proofs.Places.{push_empty}

@@ -1,5 +1,5 @@
 use Rattle.std.proofs.Common.{◌≡◌, ◌+◌, ◌≤◌, ℕ, List, [], length, take, drop, ap, sym, subst, ◌∙◌, arith}
-use Rattle.std.proofs.lemmas.List.{nil_from_length, length-take, length-drop}
+use Rattle.std.proofs.lemmas.List.{nil_from_length, length-take}
 use Rattle.mds_out.specs.Content.{Content, bytes_of, at_rest}
 use Rattle.mds_out.specs.Slots.{content_in}
 use Rattle.mds_out.proofs.Places.{first_is, none_is}

@@ -1,4 +1,4 @@
-use Rattle.std.proofs.Common.{◌≡◌, List, subst}
+use Rattle.std.proofs.Common.{List, subst}
 use Rattle.mds_out.specs.declared.slots.Slot.{Slot}
 use Rattle.mds_out.specs.Slots.{IsFirst, HasNone}
 use Rattle.mds_out.proofs.Places.{synced_place, synced_none}

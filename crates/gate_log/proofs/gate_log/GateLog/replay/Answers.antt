@@ -1,4 +1,4 @@
-use Rattle.std.proofs.Common.{◌≡◌, ◌+◌, ◌≤◌, ap, subst, arith}
+use Rattle.std.proofs.Common.{◌+◌, ◌≤◌, ap, arith}
 use Rattle.gate_log.specs.LogState.{LogState}
 use Rattle.gate_log.proofs.Replays.{ended}
 use Rattle.gate_log.proofs.gate_log.GateLog.replay.Goals as goal
