@@ -1,2 +1,10 @@
+pub mod Acts
+pub mod Clauses
+pub mod Crash
 pub mod Failing
+pub mod Fusing
+pub mod Moments
+pub mod Places
+pub mod Rooms
 pub mod Streams
+pub mod Writes

@@ -4,3 +4,14 @@ pub mod Calls
 pub mod BytesIn
 pub mod BytesOut
 pub mod Stream
+pub mod Images
+pub mod ImageLaws
+pub mod Disk
+pub mod Change
+pub mod Content
+pub mod ContentLaws
+pub mod FileRooms
+pub mod Past
+pub mod PastLaws
+pub mod Slots
+pub mod Fused

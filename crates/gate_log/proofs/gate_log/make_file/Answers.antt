@@ -1,0 +1,5 @@
+use Rattle.gate_log.proofs.Makes.{cut_moment}
+use Rattle.gate_log.proofs.gate_log.make_file.Goals as goal
+
+pub returns-in_err-cut-clause-any_moment : goal.returns-in_err-cut-clause-any_moment
+returns-in_err-cut-clause-any_moment g c = cut_moment g.D.Disk.moment g.D.Disk.images_since c.args.file c.args.disk.now c.cut.new.self (g.D.Disk.images c.args.disk.now) (g.D.Disk.images c.cut.new.self) (g.met.D.Disk.only_now c.args.disk.now) c.cut.ensures.time c.cut.ensures.crash

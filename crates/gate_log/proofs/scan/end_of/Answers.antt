@@ -1,0 +1,24 @@
+use Rattle.std.proofs.Common.{◌∙◌, List, ℕ, Option, subst}
+use Rattle.mds_out.specs.Known.{OnTold}
+use Rattle.mds_out.proofs.Moments.{both}
+use Rattle.gate_log.specs.Steps.{IsBodyAt}
+use Rattle.gate_log.proofs.Scans.{more, none, unchanged_twice, same_twice}
+use Rattle.gate_log.proofs.scan.end_of.Goals as goal
+
+pub returns-then-size-eq0-clause-found : goal.returns-then-size-eq0-clause-found
+returns-then-size-eq0-clause-found g c = none (g.D.Disk.seen c.args.disk.now c.args.file) (g.D.Disk.sizes c.args.disk.now c.args.file) c.args.size (g.met.D.Disk.tells_length c.args.disk.now c.args.file) c.requires.known c.if-size-eq0.true
+
+pub gates-preserved : goal.gates-preserved
+gates-preserved g c =
+    let before = c.gates.invariant in
+    let onward = rw c.in-Body.is at c.in_ok-step_at.ensures.onward in
+    let step = rw c.in-Body.is at c.in_ok-step_at.ensures.step in
+    let P : Option (List ℕ) → Type 0 = λ seen. OnTold seen (IsBodyAt c.gates.place c.in-Body.next) in
+    record {
+      within = onward.1;
+      scanned = more (g.D.Disk.seen c.args.disk.now c.args.file) c.gates.place c.in-Body.next before.scanned (subst P (before.unchanged.bytes c.args.file) step);
+      unchanged = unchanged_twice _ _ _ _ _ _ before.unchanged c.step_at.ensures.unchanged;
+      same = same_twice _ _ _ before.same c.step_at.ensures.crash;
+      moment = both g.D.Disk.moment g.D.Disk.images_since c.args.disk.now c.gates.disk c.step_at.new.disk (g.D.Disk.images c.args.disk.now) (g.D.Disk.images c.gates.disk) (g.D.Disk.images c.args.disk.now) before.moment c.step_at.ensures.any_moment (λ image is. is) before.same.no_other;
+      quiet = c.in_ok-step_at.ensures.cause.kept ∙ before.quiet;
+    }

@@ -1,0 +1,49 @@
+-- What the calls of a log answer.
+use Rattle.std.specs.Prelude.{◌≡◌, ◌≢◌, ◌≤◌, ℕ, max, List, [], ◌∷◌, ◌++◌, length, Option, None, Some, Result, Ok, Err, ⊤}
+use Rattle.gate_log.specs.declared.gate_log.LogFault.{LogFault}
+use Rattle.gate_log.specs.declared.gate_log.LogFault.TheVariants.{Device, Stopped, BadLog, OutOfMemory}
+use Rattle.gate_log.specs.Log.{log_bytes, IsCutShort}
+use Rattle.gate_log.specs.LogState.{LogState, IsLogOf}
+use Rattle.mds_out.specs.Disk.{Image}
+use Rattle.mds_out.specs.Known.{OnTold}
+
+-- a refusal is the disk's: it failed or found no memory
+abbrev pub IsDiskAnswer : {T : Type 0} → Result T LogFault → Type 0
+IsDiskAnswer (Ok _) = ⊤
+IsDiskAnswer (Err Device) = ⊤
+IsDiskAnswer (Err Stopped) = ⊥
+IsDiskAnswer (Err (BadLog place)) = ⊥
+IsDiskAnswer (Err OutOfMemory) = ⊤
+
+-- a file that is no log is told by the place, and other refusals are the disk's
+abbrev pub IsOpenAnswer : {T : Type 0} → Option (List ℕ) → Result T LogFault → Type 0
+IsOpenAnswer seen (Ok _) = ⊤
+IsOpenAnswer seen (Err Device) = ⊤
+IsOpenAnswer seen (Err Stopped) = ⊥
+IsOpenAnswer seen (Err (BadLog place)) = OnTold seen (λ bytes. IsCutShort bytes place)
+IsOpenAnswer seen (Err OutOfMemory) = ⊤
+
+-- an image while the file of a log is made: of that file at most one byte, or no more than it had
+pub record IsMaking (file : ℕ) (old : Image → Type 0) (image : Image) : Type 0 where
+  pub before : Image
+  pub was : old before
+  pub others : (other : ℕ) → other ≢ file → image other ≡ before other
+  pub short : length (image file) ≤ max (length (before file)) 1
+
+-- the place of a gate of the log: these bodies stand before it, and these from it on
+pub record IsGateAt (log : LogState) (place : ℕ) (before after : List (List ℕ)) (bytes : List ℕ) : Type 0 where
+  pub is : IsLogOf log (before ++ after) bytes
+  pub place_is : place ≡ length (log_bytes before)
+
+-- some gate of the log stands here
+pub record IsSomeGate (log : LogState) (place : ℕ) (bytes : List ℕ) : Type 0 where
+  pub before : List (List ℕ)
+  pub after : List (List ℕ)
+  pub at : IsGateAt log place before after bytes
+
+-- No body at the end, else the first of these bodies and the place of the next gate.
+abbrev pub IsReplayed : LogState → List (List ℕ) → List (List ℕ) → Option ℕ → List ℕ → List ℕ → Type 0
+IsReplayed log before [] None into bytes = ⊤
+IsReplayed log before [] (Some next) into bytes = ⊥
+IsReplayed log before (body ∷ after) None into bytes = ⊥
+IsReplayed log before (body ∷ after) (Some next) into bytes = (into ≡ body) × IsGateAt log next (before ++ body ∷ []) after bytes

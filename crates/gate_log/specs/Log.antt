@@ -1,0 +1,51 @@
+-- What a log file holds: log = gate (body gate)*, body = length u32, then that many bytes. A gate is one byte; 01 is open.
+use Rattle.std.specs.Prelude.{◌≡◌, ◌≢◌, ◌⊎◌, ◌+◌, ◌<◌, ◌^◌, ℕ, List, [], ◌∷◌, ◌++◌, length, take, All, ⊤}
+use Rattle.std.specs.Int.{to_be_bytes, from_be_bytes, w32}
+
+-- a body as the file has it: its length as a big-endian u32, and its bytes
+abbrev pub framed : List ℕ → List ℕ
+framed body = to_be_bytes w32 (length body) ++ body
+
+-- bodies, each behind an open gate
+abbrev pub log_bytes : List (List ℕ) → List ℕ
+log_bytes [] = []
+log_bytes (body ∷ bodies) = 1 ∷ framed body ++ log_bytes bodies
+
+-- the bytes of the log, its closed gate included
+abbrev pub log_length : List (List ℕ) → ℕ
+log_length bodies = length (log_bytes bodies) + 1
+
+-- The file holds these bodies before its first closed gate. What follows that gate is not part of the log.
+pub record HoldsLog (bodies : List (List ℕ)) (file : List ℕ) : Type 0 where
+  pub gate : ℕ
+  pub rest : List ℕ
+  pub split : file ≡ log_bytes bodies ++ gate ∷ rest
+  pub closed : gate ≢ 1
+  pub short : All (λ body. length body < 2 ^ 32) bodies
+
+-- nothing, or an open gate that is followed by fewer bytes than its body and the next gate need
+abbrev pub IsLacking : List ℕ → Type 0
+IsLacking [] = ⊤
+IsLacking (gate ∷ after) = (gate ≡ 1) × (length after < 4 + from_be_bytes w32 (take 4 after) + 1)
+
+-- The file is no log: it is empty, or the open gate at this place lacks bytes behind it.
+pub record IsCutShort (file : List ℕ) (place : ℕ) : Type 0 where
+  pub bodies : List (List ℕ)
+  pub rest : List ℕ
+  pub split : file ≡ log_bytes bodies ++ rest
+  pub place_is : place ≡ length (log_bytes bodies)
+  pub lacking : IsLacking rest
+  pub empty : rest ≡ [] → bodies ≡ []
+  pub short : All (λ body. length body < 2 ^ 32) bodies
+
+-- the log stands with the new body or without it
+abbrev pub IsBeforeOrAfter : List (List ℕ) → List ℕ → List ℕ → Type 0
+IsBeforeOrAfter bodies body file = HoldsLog bodies file ⊎ HoldsLog (bodies ++ body ∷ []) file
+
+-- A file holds one log at most.
+abbrev pub HoldsOneLog : Type 0
+HoldsOneLog = (bodies others : List (List ℕ)) (file : List ℕ) → HoldsLog bodies file → HoldsLog others file → bodies ≡ others
+
+-- A file that is cut short holds none.
+abbrev pub IsEitherLogOrShort : Type 0
+IsEitherLogOrShort = (bodies : List (List ℕ)) (file : List ℕ) (place : ℕ) → HoldsLog bodies file → IsCutShort file place → ⊥

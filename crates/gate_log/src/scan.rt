@@ -1,0 +1,118 @@
+//! Reading a log from gate to gate.
+ghost use Rattle.std.specs.Prelude.{◌≡◌, ◌+◌, ◌-◌, ◌^◌, ◌<◌, ◌≤◌, Some, length, IfOk, OnOk, IsErrOf, take, drop};
+ghost use Rattle.std.specs.Int.{to_be_bytes, from_be_bytes, w32};
+ghost use Rattle.mds_out.specs.Known.{OnTold};
+ghost use Rattle.mds_out.specs.Disk.{AreSame, LeavesOnly, IsUnchanged, HasDiskCause};
+ghost use Rattle.gate_log.specs.Found.{IsFound, EndsWithin};
+ghost use Rattle.gate_log.specs.Steps.{IsStep, IsOnward};
+
+use mds_out::{Disk, DiskFault};
+
+/// What stands at the place of a gate.
+#[derive(Clone, Copy, Debug, PartialEq, Eq)]
+pub(crate) enum Step {
+    /// A closed gate, where the log ends.
+    Closed,
+    /// An open gate and a body; the next gate stands here.
+    Body { next: u64 },
+    /// An open gate with too few bytes behind it.
+    Lacking,
+}
+
+/// Where a log ends, or the place at which the file is none.
+#[derive(Clone, Copy, Debug, PartialEq, Eq)]
+pub(crate) enum Found {
+    /// A log of this length.
+    End { length: u64 },
+    /// An empty file, or an open gate at this place with too few bytes behind it.
+    Bad { place: u64 },
+}
+
+/// Goes from gate to gate to the log's end.
+pub(crate) fn end_of<D: Disk>(disk: &mut D, file: u32, size: u64) -> Result<Found, DiskFault>
+    requires short { size < 2 ^ 63 }
+    requires known { D.sizes disk.old file ≡ Some size }
+    ensures found { IfOk result (λ found. OnTold (D.seen disk.old file) (IsFound found)) }
+    ensures within { IfOk result (EndsWithin size) }
+    ensures unchanged { IsUnchanged (D.seen disk.old) (D.seen disk.new) (D.sizes disk.old) (D.sizes disk.new) }
+    ensures crash { AreSame (D.images disk.old) (D.images disk.new) }
+    ensures any_moment { LeavesOnly D.moment D.images_since disk.old disk.new (D.images disk.old) }
+    ensures cause { HasDiskCause (D.faults disk.old) (D.faults disk.new) result }
+{
+    if size == 0 {
+        return Ok(Found::Bad { place: 0 });
+    }
+    let mut place = 0;
+    'gates: loop {
+        match step_at(disk, file, size, place)? {
+            Step::Closed => return Ok(Found::End { length: place + 1 }),
+            Step::Body { next } => place = next,
+            Step::Lacking => return Ok(Found::Bad { place }),
+        }
+    }
+}
+
+/// Reads the gate at a place within the file, and the length of its body where it is open.
+pub(crate) fn step_at<D: Disk>(
+    disk: &mut D,
+    file: u32,
+    size: u64,
+    place: u64,
+) -> Result<Step, DiskFault>
+    requires within { place < size }
+    requires short { size < 2 ^ 63 }
+    requires known { D.sizes disk.old file ≡ Some size }
+    ensures step { IfOk result (λ step. OnTold (D.seen disk.old file) (IsStep place step)) }
+    ensures onward { IfOk result (IsOnward place size) }
+    ensures unchanged { IsUnchanged (D.seen disk.old) (D.seen disk.new) (D.sizes disk.old) (D.sizes disk.new) }
+    ensures crash { AreSame (D.images disk.old) (D.images disk.new) }
+    ensures any_moment { LeavesOnly D.moment D.images_since disk.old disk.new (D.images disk.old) }
+    ensures cause { HasDiskCause (D.faults disk.old) (D.faults disk.new) result }
+{
+    let mut gate = [0; 1];
+    read_at(disk, file, place, &mut gate)?;
+    if gate[0] != 1 {
+        return Ok(Step::Closed);
+    }
+    if size - place < 6 {
+        return Ok(Step::Lacking);
+    }
+    let mut len = [0; 4];
+    read_at(disk, file, place + 1, &mut len)?;
+    let body = number_of(&len) as u64;
+    if size - place - 5 <= body {
+        return Ok(Step::Lacking);
+    }
+    Ok(Step::Body {
+        next: place + 5 + body,
+    })
+}
+
+/// A read that says of each moment that it changed no image.
+pub(crate) fn read_at<D: Disk>(
+    disk: &mut D,
+    file: u32,
+    at: u64,
+    into: &mut [u8],
+) -> Result<(), DiskFault>
+    requires short { at + length into.old < 2 ^ 63 }
+    requires within { OnTold (D.sizes disk.old file) (λ size. at + length into.old ≤ size) }
+    ensures bytes { OnOk result (OnTold (D.seen disk.old file) (λ bytes. into.new ≡ take (length into.old) (drop at bytes))) }
+    ensures unchanged { IsUnchanged (D.seen disk.old) (D.seen disk.new) (D.sizes disk.old) (D.sizes disk.new) }
+    ensures crash { AreSame (D.images disk.old) (D.images disk.new) }
+    ensures any_moment { LeavesOnly D.moment D.images_since disk.old disk.new (D.images disk.old) }
+    ensures no_memory { IsErrOf result DiskFault.OutOfMemory → ⊥ }
+    ensures cause { HasDiskCause (D.faults disk.old) (D.faults disk.new) result }
+{
+    disk.read(file, at, into)
+}
+
+/// The number that four bytes spell, the most significant one first.
+pub(crate) fn number_of(bytes: &[u8]) -> u32
+    requires { length bytes.now ≡ 4 }
+    ensures number { result ≡ from_be_bytes w32 bytes.now }
+    ensures spelled { to_be_bytes w32 result ≡ bytes.now }
+    ensures small { result < 2 ^ 32 }
+{
+    u32::from_be_bytes([bytes[0], bytes[1], bytes[2], bytes[3]])
+}

@@ -1,0 +1,37 @@
+-- What a fuse round a disk is: the disk, how many calls still pass where it is armed, and how many it refused.
+use Rattle.std.specs.Prelude.{◌≡◌, ℕ, ◌+◌, ◌-◌, ◌^◌, min, Option, None, Some, Result, Bool, true, false, ◌==◌, MatchBool}
+use Rattle.mds_out.specs.declared.disk.DiskFault.{DiskFault}
+use Rattle.mds_out.specs.Past.{is_device}
+
+pub record Fused (D : Type 0) : Type 0 where
+  pub inner : D
+  pub left : Option ℕ
+  pub refused : ℕ
+
+-- no call passes any more
+abbrev pub is_blown : Option ℕ → Bool
+is_blown None = false
+is_blown (Some left) = left == 0
+
+-- how many calls pass after one that passed
+abbrev pub one_less : Option ℕ → Option ℕ
+one_less None = None
+one_less (Some left) = Some (left - 1)
+
+-- the faults of the disk and the calls that the fuse refused
+abbrev pub fused_faults : {D : Type 0} → (D → ℕ) → Fused D → ℕ
+fused_faults faults fuse = faults fuse.inner + fuse.refused
+
+-- a call that the fuse refused: the disk is not called, and the answer is `Device`
+pub record IsRefused {D T : Type 0} (old new : Fused D) (result : Result T DiskFault) : Type 0 where
+  pub answer : is_device result ≡ true
+  pub same : new ≡ record old { refused = min (old.refused + 1) (2 ^ 64 - 1) }
+
+-- a call that passed: the fuse counts it, and refuses none
+pub record HasPassed {D : Type 0} (old new : Fused D) : Type 0 where
+  pub left : new.left ≡ one_less old.left
+  pub refused : new.refused ≡ old.refused
+
+-- exactly the calls after those that pass are refused
+abbrev pub IsFused : {D T : Type 0} → Fused D → Fused D → Result T DiskFault → Type 0
+IsFused old new result = MatchBool (is_blown old.left) (IsRefused old new result) (HasPassed old new)

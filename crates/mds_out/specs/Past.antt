@@ -1,0 +1,60 @@
+-- What a disk in memory is: what a restart leaves, the failing calls, and all that was done to it, oldest first.
+use Rattle.std.specs.Prelude.{◌≡◌, ◌≤◌, ℕ, Bool, true, false, List, [], ◌∷◌, ◌++◌, length, take, fold, ◌==◌, if◌then◌else◌, Result, Ok, Err, OnOk, OnErr}
+use Rattle.mds_out.specs.declared.act.Act.{Act}
+use Rattle.mds_out.specs.declared.act.Act.TheVariants.{Changed, Synced, Restarted}
+use Rattle.mds_out.specs.declared.disk.DiskFault.{DiskFault}
+use Rattle.mds_out.specs.declared.disk.DiskFault.TheVariants.{Device, OutOfMemory}
+use Rattle.mds_out.specs.declared.outcome.Outcome.{Outcome}
+use Rattle.mds_out.specs.Calls.{is_failing, next_number}
+use Rattle.mds_out.specs.Content.{Content, at_rest, bytes_of, left_of, with_change, history}
+use Rattle.mds_out.specs.Disk.{Image}
+use Rattle.mds_out.specs.Images.{IsImage}
+
+-- one file after one act
+abbrev pub acted : Outcome → ℕ → Content → Act → Content
+acted outcome file content (Changed number change) = if number == file then with_change content change else content
+acted outcome file content (Synced number) = if number == file then at_rest (bytes_of content) else content
+acted outcome file content Restarted = at_rest (left_of outcome content)
+
+-- a file after these acts; a file that was never written is empty
+abbrev pub content_of : Outcome → List Act → ℕ → Content
+content_of outcome acts file = fold (acted outcome file) (at_rest []) acts
+
+-- what a crash may leave of all files after these acts
+abbrev pub IsPastImage : Outcome → List Act → Image → Type 0
+IsPastImage outcome acts image = (file : ℕ) → IsImage (history (content_of outcome acts file)) (image file)
+
+-- what a crash may have left at a moment from this one on, where each act takes the disk to its next moment
+abbrev pub IsImageSince : Outcome → List Act → ℕ → Image → Type 0
+IsImageSince outcome acts moment image = (now : ℕ) × (moment ≤ now) × (now ≤ length acts) × IsPastImage outcome (take now acts) image
+
+pub record Past : Type 0 where
+  pub outcome : Outcome
+  pub fails : List ℕ
+  pub made : ℕ
+  pub acts : List Act
+
+-- after one call more, which did nothing
+abbrev pub counted : Past → Past
+counted past = record past { made = next_number past.made }
+
+-- after one call more, which did this
+abbrev pub with_act : Past → Act → Past
+with_act past act = record past { made = next_number past.made; acts = past.acts ++ act ∷ [] }
+
+abbrev pub is_device : {T : Type 0} → Result T DiskFault → Bool
+is_device (Ok _) = false
+is_device (Err Device) = true
+is_device (Err OutOfMemory) = false
+
+-- the call did this act, or was refused and did nothing; it failed exactly where its number said so, or found no memory
+pub record IsDone {T : Type 0} (act : Act) (old new : Past) (result : Result T DiskFault) : Type 0 where
+  pub done : OnOk result (new ≡ with_act old act)
+  pub refused : OnErr result (new ≡ counted old)
+  pub fails : is_failing old.fails old.made ≡ is_device result
+
+-- the call looked and did nothing; it failed exactly where its number said so, and took no memory
+pub record IsLooked {T : Type 0} (old new : Past) (result : Result T DiskFault) : Type 0 where
+  pub same : new ≡ counted old
+  pub fails : OnOk result (is_failing old.fails old.made ≡ false)
+  pub refused : OnErr result ((is_failing old.fails old.made ≡ true) × (is_device result ≡ true))

@@ -1,0 +1,198 @@
+//! Numbered files in memory, which fail and are torn as their maker said.
+ghost use Rattle.std.specs.Prelude.{◌≡◌, ◌∷◌, ◌++◌, [], ◌+◌, ◌^◌, ◌<◌, ◌≤◌, Some, length, take, drop, OnOk, OnErr, IfOk};
+ghost use Rattle.mds_out.specs.declared.act.Act.TheVariants.{Changed, Synced, Restarted};
+ghost use Rattle.mds_out.specs.declared.change.Change.TheVariants.{Write, Cut};
+ghost use Rattle.mds_out.specs.Calls.{failed_calls};
+ghost use Rattle.mds_out.specs.Change.{change_end};
+ghost use Rattle.mds_out.specs.Content.{bytes_of};
+ghost use Rattle.mds_out.specs.Disk.{HasDiskCause};
+ghost use Rattle.mds_out.specs.PastLaws.{tells_length, reads_as, counts_now, only_now};
+ghost use Rattle.mds_out.specs.Past.{content_of, IsPastImage, IsImageSince, IsDone, IsLooked};
+
+use crate::act::Act;
+use crate::calls::Calls;
+use crate::change::{Change, Written};
+use crate::slots::{Slot, change_file, length_of, read_file, restart_files, sync_file};
+use crate::{Disk, DiskFault, Outcome};
+use std::alloc::{AllocError, Global};
+use std::marker::Model;
+
+/// A disk in memory. A write costs the bytes written, a read the bytes read, and a sync what was written since the
+/// last one of its file. For its images it keeps each change.
+#[derive(Drop)]
+pub struct Memory {
+    alloc: Global,
+    outcome: Outcome,
+    calls: Calls,
+    slots: Vec<Slot>,
+    acts: Vec<Act>,
+}
+
+impl Model for Memory {
+    ghost use Rattle.mds_out.specs.Past.{Past};
+    ghost use Rattle.mds_out.specs.Slots.{HoldPast};
+
+    ghost Value = { Past };
+
+    ghost view = { λ m. record { outcome = m.outcome; fails = m.calls.fails.items; made = m.calls.made; acts = m.acts.items } };
+
+    ghost invariant = { λ m. HoldPast m.outcome m.acts.items m.slots.items };
+}
+
+impl Memory {
+    /// A disk without files. The outcome says what a restart leaves. The calls whose numbers, from 0, stand in
+    /// `fails` answer `Device`; the number 2^64 - 1 stands for none.
+    pub fn new(alloc: Global, outcome: Outcome, fails: Vec<u64>) -> Result<Memory, AllocError>
+        ensures { IfOk result (λ disk. disk ≡ record { outcome = outcome; fails = fails.items; made = 0; acts = [] }) }
+    {
+        Ok(Memory {
+            alloc,
+            outcome,
+            calls: Calls { fails, made: 0 },
+            slots: Vec::new(alloc),
+            acts: Vec::new(alloc),
+        })
+    }
+
+    fn change(&mut self, file: u32, change: Change) -> Result<(), AllocError>
+        requires { change_end change < 2 ^ 63 }
+        ensures ok { OnOk result (self.new ≡ record self.old { acts = self.old.acts ++ Changed file change ∷ [] }) }
+        ensures err { OnErr result (self.new ≡ self.old) }
+    {
+        self.acts.reserve(1)?;
+        let kept = change.copy(self.alloc)?;
+        change_file(self.alloc, &mut self.slots, file, change)?;
+        if self.acts.push(Act::Changed { file, change: kept }).is_err() {
+            unreachable!();
+        }
+        Ok(())
+    }
+}
+
+// The calls of the disk, each said as what it did to the disk's past.
+impl Memory {
+    fn length_in(&mut self, file: u32) -> Result<u64, DiskFault>
+        ensures size { IfOk result (λ size. size ≡ length (bytes_of (content_of self.old.outcome self.old.acts file))) }
+        ensures short { IfOk result (λ size. size < 2 ^ 63) }
+        ensures looked { IsLooked self.old self.new result }
+        ensures cause { HasDiskCause (failed_calls self.old.fails self.old.made) (failed_calls self.new.fails self.new.made) result }
+    {
+        if self.calls.make().is_err() {
+            return Err(DiskFault::Device);
+        }
+        Ok(length_of(&self.slots, file) as u64)
+    }
+
+    fn read_from(&mut self, file: u32, at: u64, into: &mut [u8]) -> Result<(), DiskFault>
+        requires { at + length into.old ≤ length (bytes_of (content_of self.old.outcome self.old.acts file)) }
+        ensures bytes { OnOk result (into.new ≡ take (length into.old) (drop at (bytes_of (content_of self.old.outcome self.old.acts file)))) }
+        ensures looked { IsLooked self.old self.new result }
+        ensures cause { HasDiskCause (failed_calls self.old.fails self.old.made) (failed_calls self.new.fails self.new.made) result }
+    {
+        if self.calls.make().is_err() {
+            return Err(DiskFault::Device);
+        }
+        read_file(&self.slots, file, at as usize, into);
+        Ok(())
+    }
+
+    fn write(&mut self, file: u32, at: u64, bytes: &[u8]) -> Result<(), DiskFault>
+        requires { at + length bytes.now < 2 ^ 63 }
+        ensures done { IsDone (Changed file (Write at bytes.now)) self.old self.new result }
+        ensures cause { HasDiskCause (failed_calls self.old.fails self.old.made) (failed_calls self.new.fails self.new.made) result }
+    {
+        if self.calls.make().is_err() {
+            return Err(DiskFault::Device);
+        }
+        let bytes = Written::of(self.alloc, bytes)?;
+        self.change(
+            file,
+            Change::Write {
+                at: at as usize,
+                bytes,
+            },
+        )?;
+        Ok(())
+    }
+
+    fn cut_to(&mut self, file: u32, to: u64) -> Result<(), DiskFault>
+        ensures done { IsDone (Changed file (Cut to)) self.old self.new result }
+        ensures cause { HasDiskCause (failed_calls self.old.fails self.old.made) (failed_calls self.new.fails self.new.made) result }
+    {
+        if self.calls.make().is_err() {
+            return Err(DiskFault::Device);
+        }
+        self.change(file, Change::Cut { to: to as usize })?;
+        Ok(())
+    }
+
+    fn sync_one(&mut self, file: u32) -> Result<(), DiskFault>
+        ensures done { IsDone (Synced file) self.old self.new result }
+        ensures cause { HasDiskCause (failed_calls self.old.fails self.old.made) (failed_calls self.new.fails self.new.made) result }
+    {
+        if self.calls.make().is_err() {
+            return Err(DiskFault::Device);
+        }
+        self.acts.push(Act::Synced { file })?;
+        sync_file(&mut self.slots, file);
+        Ok(())
+    }
+
+    fn restart_all(&mut self) -> Result<(), DiskFault>
+        ensures done { IsDone Restarted self.old self.new result }
+        ensures cause { HasDiskCause (failed_calls self.old.fails self.old.made) (failed_calls self.new.fails self.new.made) result }
+    {
+        if self.calls.make().is_err() {
+            return Err(DiskFault::Device);
+        }
+        self.acts.push(Act::Restarted)?;
+        restart_files(&mut self.slots, self.outcome);
+        Ok(())
+    }
+}
+
+impl Disk for Memory {
+    ghost seen = { λ m file. Some (bytes_of (content_of m.outcome m.acts file)) };
+
+    ghost sizes = { λ m file. Some (length (bytes_of (content_of m.outcome m.acts file))) };
+
+    ghost images = { λ m. IsPastImage m.outcome m.acts };
+
+    ghost moment = { λ m. length m.acts };
+
+    ghost images_since = { λ m. IsImageSince m.outcome m.acts };
+
+    ghost faults = { λ m. failed_calls m.fails m.made };
+
+    ghost tells_length = { λ m file bytes is. tells_length m.outcome m.acts file bytes is };
+
+    ghost reads_as = { λ m image shows. reads_as m.outcome m.acts image shows };
+
+    ghost counts_now = { λ m t image le now. counts_now m.outcome m.acts t image le now };
+
+    ghost only_now = { λ m image since. only_now m.outcome m.acts image since };
+
+    fn length(&mut self, file: u32) -> Result<u64, DiskFault> {
+        self.length_in(file)
+    }
+
+    fn read(&mut self, file: u32, at: u64, into: &mut [u8]) -> Result<(), DiskFault> {
+        self.read_from(file, at, into)
+    }
+
+    fn write_at(&mut self, file: u32, at: u64, bytes: &[u8]) -> Result<(), DiskFault> {
+        self.write(file, at, bytes)
+    }
+
+    fn cut(&mut self, file: u32, to: u64) -> Result<(), DiskFault> {
+        self.cut_to(file, to)
+    }
+
+    fn sync(&mut self, file: u32) -> Result<(), DiskFault> {
+        self.sync_one(file)
+    }
+
+    fn restart(&mut self) -> Result<(), DiskFault> {
+        self.restart_all()
+    }
+}
