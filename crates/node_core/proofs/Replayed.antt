@@ -1,0 +1,139 @@
+-- When a record may follow, and what replaying it comes to.
+use Rattle.std.proofs.Common.{◌≡◌, ◌∙◌, sym, ap, refl, ℕ, ◌==◌, ◌&&◌, Bool, true, false, cond, List, arith}
+use Rattle.std.proofs.lemmas.Bool.Decides.{nat_tests}
+use Rattle.mds_base.specs.declared.call.Call.{Call}
+use Rattle.mds_base.specs.declared.reply.Final.{Final}
+use Rattle.mds_base.specs.declared.reply.Final.TheVariants.{Created, CreatedDir, Exists, Removed, Missing, IsDir, Set, Ids, Loaded, Stale}
+use Rattle.mds_base.specs.declared.reply.Reply.{Reply}
+use Rattle.records.specs.declared.record.Record.TheVariants.{Served}
+use Rattle.sessions.specs.declared.kept.Judged.{Judged}
+use Rattle.sessions.specs.declared.kept.Judged.TheVariants.{New, Again, Old}
+use Rattle.sessions.specs.Kept.{judge_kept}
+use Rattle.node_core.specs.Nodes.{NodeV, StoreV, owns, has_numbers, session_in}
+use Rattle.node_core.specs.Rules.{ChangeOf, LookOf, NotServed, asked_of, said_in, Outcome, Silent, Looks, Carries, by_judged, outcome_of, outcome}
+use Rattle.node_core.specs.Serving.{same_final, final_tag, carries, may_follow, may_carry, is_new_change, part_at, ask_of, carried, carried_at, replayed, replayed_as, IsReplayed}
+
+abbrev final_of : ℕ → ℕ → Final
+final_of t n = cond (t == 1) Created (cond (t == 2) (CreatedDir n) (cond (t == 3) Exists (cond (t == 4) Removed (cond (t == 5) Missing (cond (t == 6) IsDir (cond (t == 7) Set (cond (t == 8) (Ids n) (cond (t == 9) (Loaded n) Stale))))))))
+
+final_back : (said : Final) → final_of (final_tag said).0 (final_tag said).1 ≡ said
+final_back Created = refl
+final_back (CreatedDir n) = refl
+final_back Exists = refl
+final_back Removed = refl
+final_back Missing = refl
+final_back IsDir = refl
+final_back Set = refl
+final_back (Ids n) = refl
+final_back (Loaded n) = refl
+final_back Stale = refl
+
+same_of : (a b : ℕ) → (a == b) ≡ true → a ≡ b
+same_of a b e = grind (arith, nat_tests)
+
+pub self_of : (a b : ℕ) → a ≡ b → (a == b) ≡ true
+self_of a b e = grind (arith, nat_tests)
+
+both : (a b : Bool) → (a && b) ≡ true → (a ≡ true) × (b ≡ true)
+both true b e = (refl, e)
+both false b e = cc
+
+pub both_true : (a b : Bool) → a ≡ true → b ≡ true → (a && b) ≡ true
+both_true true b e f = f
+both_true false b e f = e
+
+-- finals with one tag and one number are one
+pub same_finals : (a b : Final) → same_final a b ≡ true → a ≡ b
+same_finals a b e =
+    let h = both ((final_tag a).0 == (final_tag b).0) ((final_tag a).1 == (final_tag b).1) e in
+    let t = same_of (final_tag a).0 (final_tag b).0 h.0 in
+    let n = same_of (final_tag a).1 (final_tag b).1 h.1 in
+    sym (final_back a) ∙ ap (λ x. final_of x (final_tag a).1) t ∙ ap (final_of (final_tag b).0) n ∙ final_back b
+
+pub same_final_self : (said : Final) → same_final said said ≡ true
+same_final_self said = both_true ((final_tag said).0 == (final_tag said).0) ((final_tag said).1 == (final_tag said).1) (self_of (final_tag said).0 (final_tag said).0 refl) (self_of (final_tag said).1 (final_tag said).1 refl)
+
+not_true : (b : Bool) → (b ≡ true → ⊥) → b ≡ false
+not_true true h = absurd (h refl)
+not_true false h = refl
+
+-- a record that may not follow changes nothing
+pub stays : (store : StoreV) (client seq part : ℕ) (call : Call) (said : Final) → (may_follow store (Served client seq part call said) ≡ true → ⊥) → IsReplayed store (Served client seq part call said) store.node store.rows false
+stays store client seq part call said never =
+    let e : may_follow store (Served client seq part call said) ≡ false = not_true _ never in
+    let r : replayed store (Served client seq part call said) ≡ store = ap (replayed_as store (Served client seq part call said)) e in
+    record { follows' = sym e; node' = ap (λ (v : StoreV). v.node) (sym r); rows' = ap (λ (v : StoreV). v.rows) (sym r) }
+
+-- a call that is no change is not replayed
+no_carries : (store : StoreV) (client seq : ℕ) (call : Call) (said : Final) (o : Outcome) → outcome store (ask_of client seq call) 0 ≡ o → carries o said ≡ false → carries (outcome store (ask_of client seq call) 0) said ≡ false
+no_carries store client seq call said o is never = ap (λ x. carries x said) is ∙ never
+
+look_carries : (b : Bool) (reply : Reply) (said : Final) → carries (cond b (Looks reply) Silent) said ≡ false
+look_carries true reply said = refl
+look_carries false reply said = refl
+
+no_follow : (store : StoreV) (client seq part : ℕ) (call : Call) (said : Final) → carries (outcome store (ask_of client seq call) 0) said ≡ false → may_follow store (Served client seq part call said) ≡ true → ⊥
+no_follow store client seq part call said never e =
+    let h = both (has_numbers store.node) _ e in
+    let c = both (carries (outcome store (ask_of client seq call) 0) said) _ h.1 in
+    let t = c.0 in cc
+
+pub not_change : (store : StoreV) (client seq part : ℕ) (call : Call) (said : Final) → asked_of call ≡ NotServed → IsReplayed store (Served client seq part call said) store.node store.rows false
+not_change store client seq part call said asked = stays store client seq part call said (no_follow store client seq part call said (no_carries store client seq call said Silent (ap (outcome_of store (ask_of client seq call) 0) asked) refl))
+
+pub not_look : (store : StoreV) (client seq part : ℕ) (call : Call) (said : Final) (dir : ℕ) (name : List ℕ) → asked_of call ≡ LookOf dir name → IsReplayed store (Served client seq part call said) store.node store.rows false
+not_look store client seq part call said dir name asked =
+    stays store client seq part call said (no_follow store client seq part call said
+    (ap (λ x. carries (outcome_of store (ask_of client seq call) 0 x) said) asked ∙ look_carries (owns store.node dir 0) _ said))
+
+-- what a change that may follow has to meet
+judged_new_of : (j : Judged) (own said : Final) → carries (by_judged j own) said ≡ true → (is_new_change j ≡ true) × (said ≡ own)
+judged_new_of New own said e = (refl, sym (same_finals own said e))
+judged_new_of (Again kept) own said e = cc
+judged_new_of (Old kept) own said e = cc
+
+pub owned_of : (b : Bool) (j : Judged) (own said : Final) → carries (cond b (by_judged j own) Silent) said ≡ true → (b ≡ true) × (is_new_change j ≡ true) × (said ≡ own)
+owned_of true j own said e = let h = judged_new_of j own said e in (refl, h.0, h.1)
+owned_of false j own said e = cc
+
+pub follows_means : (store : StoreV) (client seq part : ℕ) (call : Call) (said : Final) (dir : ℕ) (name : List ℕ) → asked_of call ≡ ChangeOf dir name → may_follow store (Served client seq part call said) ≡ true
+    → (may_carry store.node dir client seq part ≡ true) × (said ≡ said_in store call dir name)
+follows_means store client seq part call said dir name asked e =
+    let h = both (has_numbers store.node) _ e in
+    let c = both (carries (outcome store (ask_of client seq call) 0) said) (part == part_at store (asked_of call)) h.1 in
+    let o = owned_of (owns store.node dir 0) (judge_kept (session_in store.node dir 0 client) seq) (said_in store call dir name) said (sym (ap (λ x. carries (outcome_of store (ask_of client seq call) 0 x) said) asked) ∙ c.0) in
+    let zero : part ≡ 0 = same_of part (part_at store (asked_of call)) c.1 ∙ ap (part_at store) asked in
+    (both_true _ _ (both_true _ _ (self_of part 0 zero) (both_true _ _ h.0 o.0)) o.1, o.2)
+
+new_of : (j : Judged) → is_new_change j ≡ true → j ≡ New
+new_of New e = refl
+new_of (Again kept) e = cc
+new_of (Old kept) e = cc
+
+pub record MayMeans (node : NodeV) (dir client seq part : ℕ) : Type 0 where
+  pub part' : part ≡ 0
+  pub numbers : has_numbers node ≡ true
+  pub own : owns node dir 0 ≡ true
+  pub newer : judge_kept (session_in node dir 0 client) seq ≡ New
+
+pub carry_means : (node : NodeV) (dir client seq part : ℕ) → may_carry node dir client seq part ≡ true → MayMeans node dir client seq part
+carry_means node dir client seq part e =
+    let h = both ((part == 0) && (has_numbers node && owns node dir 0)) (is_new_change (judge_kept (session_in node dir 0 client) seq)) e in
+    let p = both (part == 0) (has_numbers node && owns node dir 0) h.0 in
+    let n = both (has_numbers node) (owns node dir 0) p.1 in
+    record { part' = same_of part 0 p.0; numbers = n.0; own = n.1; newer = new_of (judge_kept (session_in node dir 0 client) seq) h.1 }
+
+-- a change that may follow is carried out
+pub follows_so : (store : StoreV) (client seq part : ℕ) (call : Call) (said : Final) (dir : ℕ) (name : List ℕ) → asked_of call ≡ ChangeOf dir name → may_carry store.node dir client seq part ≡ true → said ≡ said_in store call dir name
+    → (may_follow store (Served client seq part call said) ≡ true) × (replayed store (Served client seq part call said) ≡ carried store client seq call dir name)
+follows_so store client seq part call said dir name asked may said' =
+    let m = carry_means store.node dir client seq part may in
+    let is_carried : outcome store (ask_of client seq call) 0 ≡ Carries said =
+    ap (outcome_of store (ask_of client seq call) 0) asked
+    ∙ ap (λ b. cond b (by_judged (judge_kept (session_in store.node dir 0 client) seq) (said_in store call dir name)) Silent) m.own
+    ∙ ap (λ j. by_judged j (said_in store call dir name)) m.newer
+    ∙ ap Carries (sym said') in
+    let first : carries (outcome store (ask_of client seq call) 0) said ≡ true = ap (λ o. carries o said) is_carried ∙ same_final_self said in
+    let second : (part == part_at store (asked_of call)) ≡ true = self_of part (part_at store (asked_of call)) (m.part' ∙ sym (ap (part_at store) asked)) in
+    let can : may_follow store (Served client seq part call said) ≡ true = both_true (has_numbers store.node) _ m.numbers (both_true _ _ first second) in
+    (can, ap (replayed_as store (Served client seq part call said)) can ∙ ap (carried_at store client seq call) asked)

@@ -1,0 +1,145 @@
+-- What a partition keeps of a client, and the row of a name, once a change was carried out.
+use Rattle.std.proofs.Common.{◌≡◌, ◌∙◌, sym, ap, refl, ℕ, ◌+◌, length, List, Option, Some, None, cond, unwrap_or, subst, Bool, true, false, [], ◌∷◌}
+use Rattle.std.specs.declared.cmp.Ordering.{Ordering}
+use Rattle.std.specs.Ordering.{nat_cmp, eq_by_cmp}
+use Rattle.std.specs.Cmp.{IsTotalOrder, nat_cmp_total, eq_by_cmp_equiv}
+use Rattle.std.specs.FinMap as map
+use Rattle.std.specs.FinMap.{find}
+use Rattle.std.specs.Prelude.{map as list_map}
+use Rattle.std.proofs.lemmas.Cmp.{then_total, on_total}
+use Rattle.std.proofs.lemmas.Map.Lookups.{exact_pairs, exact_unsigned}
+use Rattle.mds_base.specs.declared.attr.Attr.{Attr}
+use Rattle.mds_base.specs.declared.call.Call.{Call}
+use Rattle.mds_base.specs.declared.reply.Final.{Final}
+use Rattle.mds_base.specs.declared.reply.Reply.TheVariants.{Said}
+use Rattle.mds_base.specs.declared.row_key.RowKey.{RowKey}
+use Rattle.mds_base.specs.Entries.{Place, Entries, Edit, Keep, Put, Drop, edited}
+use Rattle.mds_base.specs.PlainRules.{given_by}
+use Rattle.mds_base.specs.RowKeys.{RowMap}
+use Rattle.mds_base.proofs.Maps.{insert_apart, remove_apart}
+use Rattle.mds_base.proofs.Places.{places_total}
+use Rattle.mds_base.proofs.RowMaps.{row_keys_total, exact_row_keys}
+use Rattle.node_core.specs.declared.part.Part.{Part}
+use Rattle.node_core.specs.Nodes.{NodeV, PartKey, part_cmp, part_in, new_part, session_in, noted_in, row_key, row_in, rows_after, edited_rows, edit_in, edited_count, cleared, cleared_part}
+
+pub parts_total : IsTotalOrder part_cmp
+parts_total = then_total (on_total (λ (p : PartKey). p.0) nat_cmp_total) (on_total (λ (p : PartKey). p.1) nat_cmp_total)
+
+pub exact_parts : map.IsAntisymmetric part_cmp
+exact_parts = exact_pairs nat_cmp nat_cmp exact_unsigned exact_unsigned
+
+pub insert_here : {K X : Type 0} {R : K → K → Ordering} → IsTotalOrder R → (m : map.FinMap R X) (k : K) (v : X) → map.get (map.insert m k v) k ≡ Some v
+insert_here {R = R} total m k v = map.get-insert total m k v k ∙ ap (λ b. cond b (Some v) (map.get m k)) ((eq_by_cmp_equiv total).refl k)
+
+pub remove_here : {K X : Type 0} {R : K → K → Ordering} → IsTotalOrder R → (m : map.FinMap R X) (k : K) → map.get (map.remove m k) k ≡ None
+remove_here {R = R} total m k = map.get-remove total m k k ∙ ap (λ b. cond b None (map.get m k)) ((eq_by_cmp_equiv total).refl k)
+
+-- what an edit makes of an entry
+abbrev pub edited_entry : Edit → Option Attr → Option Attr
+edited_entry Keep before = before
+edited_entry (Put attr) before = Some attr
+edited_entry Drop before = None
+
+pub entry_here : (entries : Entries) (place : Place) (edit : Edit) → map.get (edited entries place edit) place ≡ edited_entry edit (map.get entries place)
+entry_here entries place Keep = refl
+entry_here entries place (Put attr) = insert_here places_total entries place attr
+entry_here entries place Drop = remove_here places_total entries place
+
+row_edit_here : (rows : RowMap) (key : RowKey) (edit : Edit) → map.get (edited_rows rows key edit) key ≡ edited_entry edit (map.get rows key)
+row_edit_here rows key Keep = refl
+row_edit_here rows key (Put attr) = insert_here row_keys_total rows key attr
+row_edit_here rows key Drop = remove_here row_keys_total rows key
+
+row_edit_apart : (rows : RowMap) (key : RowKey) (edit : Edit) (other : RowKey) → (other ≡ key → ⊥) → map.get (edited_rows rows key edit) other ≡ map.get rows other
+row_edit_apart rows key Keep other differ = refl
+row_edit_apart rows key (Put attr) other differ = insert_apart row_keys_total exact_row_keys rows key attr other differ
+row_edit_apart rows key Drop other differ = remove_apart row_keys_total exact_row_keys rows key other differ
+
+pub row_here : (rows : RowMap) (dir part : ℕ) (name : List ℕ) (call : Call) (said : Final) → row_in (rows_after rows dir part name call said) dir part name ≡ edited_entry (edit_in rows dir part name call said) (row_in rows dir part name)
+unfolding row_in rows_after
+row_here rows dir part name call said = row_edit_here rows (row_key dir part name) (edit_in rows dir part name call said)
+
+pub row_apart : (rows : RowMap) (dir part : ℕ) (name : List ℕ) (call : Call) (said : Final) (other_dir other_part : ℕ) (other : List ℕ)
+    → (other_dir ≡ dir → other_part ≡ part → other ≡ name → ⊥)
+    → row_in (rows_after rows dir part name call said) other_dir other_part other ≡ row_in rows other_dir other_part other
+unfolding row_in rows_after
+row_apart rows dir part name call said other_dir other_part other differ =
+    row_edit_apart rows (row_key dir part name) (edit_in rows dir part name call said) (row_key other_dir other_part other)
+    (λ e. differ (ap (λ (k : RowKey). k.dir) e) (ap (λ (k : RowKey). k.part) e) (ap (λ (k : RowKey). k.name) e))
+
+-- the partition that was changed, and the others
+abbrev noted_part : NodeV → RowMap → ℕ → ℕ → List ℕ → ℕ → ℕ → Call → Final → Part
+noted_part node rows dir part name client seq call said = record {
+  count = edited_count (part_in node dir part).count (edit_in rows dir part name call said) (row_in rows dir part name);
+  sessions = map.insert (part_in node dir part).sessions client (record { seq = seq; said = said });
+}
+
+part_here : (node : NodeV) (rows : RowMap) (dir part : ℕ) (name : List ℕ) (client seq : ℕ) (call : Call) (said : Final)
+    → part_in (noted_in node rows dir part name client seq call said) dir part ≡ noted_part node rows dir part name client seq call said
+unfolding noted_in
+part_here node rows dir part name client seq call said = ap (λ o. unwrap_or o new_part) (insert_here parts_total node.parts (dir, part) (noted_part node rows dir part name client seq call said))
+
+part_apart : (node : NodeV) (rows : RowMap) (dir part : ℕ) (name : List ℕ) (client seq : ℕ) (call : Call) (said : Final) (other : PartKey)
+    → (◌≡◌ {A = PartKey} other (dir, part) → ⊥)
+    → map.get (noted_in node rows dir part name client seq call said).parts other ≡ map.get node.parts other
+unfolding noted_in
+part_apart node rows dir part name client seq call said other differ = insert_apart parts_total exact_parts node.parts (dir, part) (noted_part node rows dir part name client seq call said) other differ
+
+pub session_here : (node : NodeV) (rows : RowMap) (dir part : ℕ) (name : List ℕ) (client seq : ℕ) (call : Call) (said : Final)
+    → session_in (noted_in node rows dir part name client seq call said) dir part client ≡ Some (record { seq = seq; said = said })
+unfolding session_in
+session_here node rows dir part name client seq call said =
+    ap (λ (p : Part). map.get p.sessions client) (part_here node rows dir part name client seq call said)
+    ∙ insert_here nat_cmp_total (part_in node dir part).sessions client (record { seq = seq; said = said })
+
+-- another client of the same partition
+pub session_beside : (node : NodeV) (rows : RowMap) (dir part : ℕ) (name : List ℕ) (client seq : ℕ) (call : Call) (said : Final) (other : ℕ)
+    → (other ≡ client → ⊥)
+    → session_in (noted_in node rows dir part name client seq call said) dir part other ≡ session_in node dir part other
+unfolding session_in
+session_beside node rows dir part name client seq call said other differ =
+    ap (λ (p : Part). map.get p.sessions other) (part_here node rows dir part name client seq call said)
+    ∙ insert_apart nat_cmp_total exact_unsigned (part_in node dir part).sessions client (record { seq = seq; said = said }) other differ
+
+-- a client of another partition
+pub session_apart : (node : NodeV) (rows : RowMap) (dir part : ℕ) (name : List ℕ) (client seq : ℕ) (call : Call) (said : Final) (other_dir other_part other : ℕ)
+    → (◌≡◌ {A = PartKey} (other_dir, other_part) (dir, part) → ⊥)
+    → session_in (noted_in node rows dir part name client seq call said) other_dir other_part other ≡ session_in node other_dir other_part other
+unfolding session_in
+session_apart node rows dir part name client seq call said other_dir other_part other differ =
+    ap (λ o. map.get (unwrap_or o new_part).sessions other) (part_apart node rows dir part name client seq call said (other_dir, other_part) differ)
+
+pub noted_server : (node : NodeV) (rows : RowMap) (dir part : ℕ) (name : List ℕ) (client seq : ℕ) (call : Call) (said : Final) → (noted_in node rows dir part name client seq call said).server ≡ node.server
+unfolding noted_in
+noted_server node rows dir part name client seq call said = refl
+
+pub noted_setup : (node : NodeV) (rows : RowMap) (dir part : ℕ) (name : List ℕ) (client seq : ℕ) (call : Call) (said : Final) → (noted_in node rows dir part name client seq call said).setup ≡ node.setup
+unfolding noted_in
+noted_setup node rows dir part name client seq call said = refl
+
+pub noted_next : (node : NodeV) (rows : RowMap) (dir part : ℕ) (name : List ℕ) (client seq : ℕ) (call : Call) (said : Final) → (noted_in node rows dir part name client seq call said).next ≡ node.next + length (given_by call (Said said))
+unfolding noted_in
+noted_next node rows dir part name client seq call said = refl
+
+-- a node without its sessions keeps nothing of any client
+abbrev HasNone : Option Part → Type 0
+HasNone None = Unit {0}
+HasNone (Some part) = part.sessions ≡ map.empty
+
+cleared_one : (b : Bool) (part : Part) (rest : Option Part) → HasNone rest → HasNone (cond b (Some (record { count = part.count; sessions = map.empty })) rest)
+cleared_one true part rest h = refl
+cleared_one false part rest h = h
+
+cleared_find : (es : List (PartKey × Part)) (q : PartKey) → HasNone (find part_cmp q (list_map cleared_part es))
+cleared_find [] q = tt
+cleared_find (e ∷ es) q = cleared_one (eq_by_cmp part_cmp q e.0) e.1 (find part_cmp q (list_map cleared_part es)) (cleared_find es q)
+
+none_of : (o : Option Part) (client : ℕ) → HasNone o → map.get (unwrap_or o new_part).sessions client ≡ None
+none_of None client h = map.get-empty nat_cmp client
+none_of (Some part) client h = ap (λ m. map.get m client) h ∙ map.get-empty nat_cmp client
+
+pub session_cleared : (node : NodeV) (dir part client : ℕ) → session_in (cleared node) dir part client ≡ None
+unfolding session_in
+session_cleared node dir part client =
+    none_of (map.get (cleared node).parts (dir, part)) client
+    (subst HasNone (sym (map.get-from_entries parts_total (list_map cleared_part (map.entries node.parts)) (dir, part))) (cleared_find (map.entries node.parts) (dir, part)))

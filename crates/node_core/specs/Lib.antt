@@ -1,0 +1,6 @@
+pub mod Nodes
+pub mod Rules
+pub mod Serving
+pub mod Ranges
+pub mod Edits
+pub mod Undoing

@@ -1,0 +1,132 @@
+-- What a server keeps, as a value: its next directory number, and of each of its partitions the count of its rows
+-- and its sessions. The rows stand beside the node.
+use Rattle.std.specs.Prelude.{ℕ, ◌+◌, ◌*◌, ◌-◌, ◌^◌, ◌==◌, ◌&&◌, Bool, List, length, Option, Some, None, unwrap_or, nat_le}
+use Rattle.std.specs.declared.cmp.Ordering.{Ordering}
+use Rattle.std.specs.Ordering.{nat_cmp, ordering_then}
+use Rattle.std.specs.FinMap as map
+use Rattle.std.specs.Prelude.{map as list_map}
+use Rattle.mds_base.specs.declared.attr.Attr.{Attr}
+use Rattle.mds_base.specs.declared.call.Call.{Call}
+use Rattle.mds_base.specs.declared.reply.Final.{Final}
+use Rattle.mds_base.specs.declared.reply.Reply.TheVariants.{Said}
+use Rattle.mds_base.specs.declared.setup.Setup.{Setup}
+use Rattle.mds_base.specs.declared.row_key.RowKey.{RowKey}
+use Rattle.mds_base.specs.Entries.{Edit, Keep, Put, Drop}
+use Rattle.mds_base.specs.PlainRules.{edit_of, given_by}
+use Rattle.mds_base.specs.RowKeys.{RowMap}
+use Rattle.chains.specs.Reversed.{reversed}
+use Rattle.placement.specs.Placement.{server_of}
+use Rattle.name_hash.specs.NameHash.{hash_of}
+use Rattle.sessions.specs.declared.kept.Kept.{Kept}
+use Rattle.sessions.specs.Kept as sessions
+use Rattle.node_core.specs.declared.part.Part.{Part}
+
+-- a partition's directory and its number there
+abbrev pub PartKey : Type 0
+PartKey = ℕ × ℕ
+
+abbrev pub part_cmp : PartKey → PartKey → Ordering
+part_cmp a b = ordering_then (nat_cmp a.0 b.0) (nat_cmp a.1 b.1)
+
+pub record NodeV : Type 0 where
+  -- the server's number
+  pub server : ℕ
+  pub setup : Setup
+  -- the next directory number that it gives
+  pub next : ℕ
+  -- its partitions; a partition 0 that is not here is one that nothing was noted in
+  pub parts : map.FinMap part_cmp Part
+
+-- a node with its rows
+pub record StoreV : Type 0 where
+  pub node : NodeV
+  pub rows : RowMap
+
+-- the first directory number of a server, and the end of its numbers
+abbrev pub first_number : ℕ → ℕ
+first_number server = server * 2 ^ 40 + 2
+
+abbrev pub end_of_numbers : ℕ → ℕ
+end_of_numbers server = (server + 1) * 2 ^ 40
+
+-- whether a server has the directory numbers that serving one message may want
+abbrev pub has_numbers : NodeV → Bool
+has_numbers node = nat_le (node.next + 2 ^ 18) (end_of_numbers node.server)
+
+-- a partition in which nothing was noted
+abbrev pub new_part : Part
+new_part = record { count = 0; sessions = map.empty }
+
+abbrev pub new_node : ℕ → Setup → NodeV
+new_node server setup = record { server = server; setup = setup; next = first_number server; parts = map.empty }
+
+-- a node on which nothing was noted yet
+abbrev pub is_new : NodeV → Bool
+is_new node = (node.next == first_number node.server) && (map.len node.parts == 0)
+
+-- the node without its sessions
+abbrev pub cleared_part : PartKey × Part → PartKey × Part
+cleared_part entry = (entry.0, record { count = entry.1.count; sessions = map.empty })
+
+abbrev pub cleared : NodeV → NodeV
+cleared node = record { server = node.server; setup = node.setup; next = node.next; parts = map.from_entries (list_map cleared_part (map.entries node.parts)) }
+
+abbrev pub part_in : NodeV → ℕ → ℕ → Part
+part_in node dir part = unwrap_or (map.get node.parts (dir, part)) new_part
+
+-- what the partition keeps of a client
+unfoldable pub session_in : NodeV → ℕ → ℕ → ℕ → Option Kept
+session_in node dir part client = map.get (part_in node dir part).sessions client
+
+-- the server of a partition
+abbrev pub server_for : ℕ → ℕ → ℕ → ℕ
+server_for servers dir part = server_of dir part servers
+
+-- the partition that a node locates for a name of a directory: nothing splits, so each directory is its partition 0
+abbrev pub part_for : NodeV → ℕ → List ℕ → ℕ
+part_for node dir name = 0
+
+-- whether a partition lies on the node's server
+abbrev pub owns : NodeV → ℕ → ℕ → Bool
+owns node dir part = server_for node.setup.servers dir part == node.server
+
+-- where the row of a name stands
+abbrev pub row_key : ℕ → ℕ → List ℕ → RowKey
+row_key dir part name = record { dir = dir; part = part; rev = reversed 64 (hash_of name); name = name }
+
+-- the attributes of a name in a partition
+unfoldable pub row_in : RowMap → ℕ → ℕ → List ℕ → Option Attr
+row_in rows dir part name = map.get rows (row_key dir part name)
+
+abbrev pub edited_rows : RowMap → RowKey → Edit → RowMap
+edited_rows rows key Keep = rows
+edited_rows rows key (Put attr) = map.insert rows key attr
+edited_rows rows key Drop = map.remove rows key
+
+-- how many rows there are once one entry was edited
+abbrev pub edited_count : ℕ → Edit → Option Attr → ℕ
+edited_count count (Put attr) None = count + 1
+edited_count count Drop (Some before) = count - 1
+edited_count count edit before = count
+
+-- what becomes of the row of a name by a call that got this final reply
+abbrev pub edit_in : RowMap → ℕ → ℕ → List ℕ → Call → Final → Edit
+edit_in rows dir part name call said = edit_of call (Said said) (row_in rows dir part name)
+
+-- the rows once a call on a name was carried out in a partition
+unfoldable pub rows_after : RowMap → ℕ → ℕ → List ℕ → Call → Final → RowMap
+rows_after rows dir part name call said = edited_rows rows (row_key dir part name) (edit_in rows dir part name call said)
+
+-- the node once a call on a name was carried out in a partition: the row is counted, the change is noted, and the
+-- numbers that it gave are used up
+unfoldable pub noted_in : NodeV → RowMap → ℕ → ℕ → List ℕ → ℕ → ℕ → Call → Final → NodeV
+noted_in node rows dir part name client seq call said =
+    record {
+      server = node.server;
+      setup = node.setup;
+      next = node.next + length (given_by call (Said said));
+      parts = map.insert node.parts (dir, part) (record {
+        count = edited_count (part_in node dir part).count (edit_in rows dir part name call said) (row_in rows dir part name);
+        sessions = sessions.noted (part_in node dir part).sessions client seq said;
+      });
+    }

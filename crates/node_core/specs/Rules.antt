@@ -1,0 +1,86 @@
+-- What a server makes of a request.
+use Rattle.std.specs.Prelude.{ℕ, ◌+◌, List, Option, Some, None, if◌then◌else◌}
+use Rattle.mds_base.specs.declared.attr.Attr.{Attr}
+use Rattle.mds_base.specs.declared.ask.Ask.{Ask}
+use Rattle.mds_base.specs.declared.call.Call.{Call}
+use Rattle.mds_base.specs.declared.call.Call.TheVariants.{Create, Mkdir, Remove, Lookup, Setattr, Scan, Grab, Load, Link}
+use Rattle.mds_base.specs.declared.reply.Final.{Final}
+use Rattle.mds_base.specs.declared.reply.Final.TheVariants.{Created, CreatedDir, Exists, Removed, Missing, IsDir, Set, Stale}
+use Rattle.mds_base.specs.declared.reply.Reply.{Reply}
+use Rattle.mds_base.specs.declared.reply.Reply.TheVariants.{Said, Found}
+use Rattle.mds_base.specs.Entries.{is_file}
+use Rattle.sessions.specs.declared.kept.Judged.{Judged}
+use Rattle.sessions.specs.declared.kept.Judged.TheVariants.{New, Again, Old}
+use Rattle.sessions.specs.Kept.{judge_kept}
+use Rattle.node_core.specs.Nodes.{StoreV, part_for, owns, row_in, session_in}
+
+-- what a call asks for: a change on a name, a look at a name, or what is not served yet
+pub data Asked : Type 0 where
+  ChangeOf : (dir : ℕ) (name : List ℕ) → Asked
+  LookOf : (dir : ℕ) (name : List ℕ) → Asked
+  NotServed : Asked
+
+abbrev pub asked_of : Call → Asked
+asked_of (Create dir name) = ChangeOf dir name
+asked_of (Mkdir dir name) = ChangeOf dir name
+asked_of (Remove dir name) = ChangeOf dir name
+asked_of (Setattr dir name mode size) = ChangeOf dir name
+asked_of (Lookup dir name) = LookOf dir name
+asked_of (Scan dir) = NotServed
+asked_of (Grab dir name count) = NotServed
+asked_of (Load dir rows) = NotServed
+asked_of (Link dir name id) = NotServed
+
+-- the reply that the plain rules give to a change, by the entry that stands there, with the number that mkdir would give
+abbrev pub said_of : Call → Option Attr → ℕ → Final
+said_of (Create dir name) None fresh = Created
+said_of (Create dir name) (Some attr) fresh = Exists
+said_of (Mkdir dir name) None fresh = CreatedDir fresh
+said_of (Mkdir dir name) (Some attr) fresh = Exists
+said_of (Remove dir name) None fresh = Missing
+said_of (Remove dir name) (Some attr) fresh = if is_file attr then Removed else IsDir
+said_of (Setattr dir name mode size) None fresh = Missing
+said_of (Setattr dir name mode size) (Some attr) fresh = Set
+said_of call before fresh = Stale
+
+-- the reply to a lookup
+abbrev pub found : Option Attr → ℕ → Reply
+found None until = Said Missing
+found (Some attr) until = Found attr until
+
+-- what serving a request comes to
+pub data Outcome : Type 0 where
+  -- nothing changes, and nothing is sent
+  Silent : Outcome
+  -- a lookup is answered
+  Looks : (reply : Reply) → Outcome
+  -- the kept reply of a change is sent again
+  Repeats : (said : Final) → Outcome
+  -- a change is carried out, noted and recorded
+  Carries : (said : Final) → Outcome
+
+-- a change by what is kept of its client: carried out if it is new, answered again if it is the last one, and else
+-- left without an answer
+abbrev pub by_judged : Judged → Final → Outcome
+by_judged New said = Carries said
+by_judged (Again kept) said = Repeats kept
+by_judged (Old kept) said = Silent
+
+-- the reply that a change would get at a store
+abbrev pub said_in : StoreV → Call → ℕ → List ℕ → Final
+said_in store call dir name = said_of call (row_in store.rows dir (part_for store.node dir name) name) store.node.next
+
+-- a request of what lies on another server is not served as one's own
+abbrev pub outcome_of : StoreV → Ask → ℕ → Asked → Outcome
+outcome_of store ask now (ChangeOf dir name) =
+    if owns store.node dir (part_for store.node dir name)
+    then by_judged (judge_kept (session_in store.node dir (part_for store.node dir name) ask.client) ask.seq) (said_in store ask.call dir name)
+    else Silent
+outcome_of store ask now (LookOf dir name) =
+    if owns store.node dir (part_for store.node dir name)
+    then Looks (found (row_in store.rows dir (part_for store.node dir name) name) (now + store.node.setup.lease))
+    else Silent
+outcome_of store ask now NotServed = Silent
+
+abbrev pub outcome : StoreV → Ask → ℕ → Outcome
+outcome store ask now = outcome_of store ask now (asked_of ask.call)

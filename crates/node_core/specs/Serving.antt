@@ -1,0 +1,155 @@
+-- What serving a message does, what replaying a record does and when it may follow, and what a restart sets.
+use Rattle.std.specs.Prelude.{◌≡◌, ℕ, ◌&&◌, ◌==◌, Bool, true, false, List, [], ◌∷◌, ◌++◌}
+use Rattle.mds_base.specs.declared.ask.Ask.{Ask}
+use Rattle.mds_base.specs.declared.call.Call.{Call}
+use Rattle.mds_base.specs.declared.reply.Final.{Final}
+use Rattle.mds_base.specs.declared.reply.Final.TheVariants.{Created, CreatedDir, Exists, Removed, Missing, IsDir, Set, Ids, Loaded, Stale}
+use Rattle.mds_base.specs.declared.reply.Reply.{Reply}
+use Rattle.mds_base.specs.declared.reply.Reply.TheVariants.{Said}
+use Rattle.records.specs.declared.msg.Msg.{Msg}
+use Rattle.records.specs.declared.msg.Msg.TheVariants.{Request, Answer}
+use Rattle.mds_base.specs.RowKeys.{RowMap}
+use Rattle.records.specs.declared.handled.Handled.{Handled}
+use Rattle.records.specs.declared.record.Record.{Record}
+use Rattle.records.specs.declared.record.Record.TheVariants.{Head, Opened, Served}
+use Rattle.sessions.specs.declared.kept.Judged.{Judged}
+use Rattle.sessions.specs.declared.kept.Judged.TheVariants.{New, Again, Old}
+use Rattle.sessions.specs.Kept.{judge_kept}
+use Rattle.node_core.specs.Nodes.{NodeV, StoreV, owns, session_in, has_numbers, is_new, cleared, part_for, noted_in, rows_after}
+use Rattle.node_core.specs.Rules.{Asked, ChangeOf, LookOf, NotServed, asked_of, said_in, Outcome, Silent, Looks, Repeats, Carries, outcome}
+
+-- the store once a change on a name was carried out
+abbrev pub carried : StoreV → ℕ → ℕ → Call → ℕ → List ℕ → StoreV
+carried store client seq call dir name =
+    record {
+      node = noted_in store.node store.rows dir (part_for store.node dir name) name client seq call (said_in store call dir name);
+      rows = rows_after store.rows dir (part_for store.node dir name) name call (said_in store call dir name);
+    }
+
+abbrev pub carried_at : StoreV → ℕ → ℕ → Call → Asked → StoreV
+carried_at store client seq call (ChangeOf dir name) = carried store client seq call dir name
+carried_at store client seq call (LookOf dir name) = store
+carried_at store client seq call NotServed = store
+
+-- the partition in which a change is noted
+abbrev pub part_at : StoreV → Asked → ℕ
+part_at store (ChangeOf dir name) = part_for store.node dir name
+part_at store (LookOf dir name) = 0
+part_at store NotServed = 0
+
+-- what serving gives: the store, the records of one append, and the messages to send, in their order
+pub record ServedV : Type 0 where
+  pub store : StoreV
+  pub records : List Record
+  pub outputs : List Msg
+
+abbrev pub answer_to : Ask → Reply → Msg
+answer_to ask reply = Answer ask.client ask.seq ask.attempt reply
+
+abbrev pub served_as : StoreV → Ask → Outcome → ServedV
+served_as store ask Silent = record { store = store; records = []; outputs = [] }
+served_as store ask (Looks reply) = record { store = store; records = []; outputs = answer_to ask reply ∷ [] }
+served_as store ask (Repeats said) = record { store = store; records = []; outputs = answer_to ask (Said said) ∷ [] }
+served_as store ask (Carries said) =
+    record {
+      store = carried_at store ask.client ask.seq ask.call (asked_of ask.call);
+      records = Served ask.client ask.seq (part_at store (asked_of ask.call)) ask.call said ∷ [];
+      outputs = answer_to ask (Said said) ∷ [];
+    }
+
+-- serving a request
+abbrev pub serve_ask : StoreV → Ask → ℕ → ServedV
+serve_ask store ask now = served_as store ask (outcome store ask now)
+
+-- serving a message; a message of a split changes nothing and sends nothing, since nothing splits yet
+abbrev pub serve : StoreV → Msg → ℕ → ServedV
+serve store (Request server ask cursor) now = serve_ask store ask now
+serve store msg now = record { store = store; records = []; outputs = [] }
+
+-- serving several messages, one after another
+abbrev pub serve_all : StoreV → List Msg → ℕ → ServedV
+serve_all store [] now = record { store = store; records = []; outputs = [] }
+serve_all store (msg ∷ msgs) now =
+    record {
+      store = (serve_all (serve store msg now).store msgs now).store;
+      records = (serve store msg now).records ++ (serve_all (serve store msg now).store msgs now).records;
+      outputs = (serve store msg now).outputs ++ (serve_all (serve store msg now).store msgs now).outputs;
+    }
+
+-- finals by a tag and a number
+abbrev pub final_tag : Final → ℕ × ℕ
+final_tag Created = (1, 0)
+final_tag (CreatedDir number) = (2, number)
+final_tag Exists = (3, 0)
+final_tag Removed = (4, 0)
+final_tag Missing = (5, 0)
+final_tag IsDir = (6, 0)
+final_tag Set = (7, 0)
+final_tag (Ids first) = (8, first)
+final_tag (Loaded count) = (9, count)
+final_tag Stale = (10, 0)
+
+abbrev pub same_final : Final → Final → Bool
+same_final a b = ((final_tag a).0 == (final_tag b).0) && ((final_tag a).1 == (final_tag b).1)
+
+-- whether serving comes to carrying out a change with this final reply
+abbrev pub carries : Outcome → Final → Bool
+carries (Carries said) other = same_final said other
+carries outcome other = false
+
+-- the request of which a record tells
+abbrev pub ask_of : ℕ → ℕ → Call → Ask
+ask_of client seq call = record { client = client; seq = seq; attempt = 1; call = call }
+
+abbrev pub is_new_change : Judged → Bool
+is_new_change New = true
+is_new_change (Again said) = false
+is_new_change (Old kept) = false
+
+-- whether a change of a client would be noted in a partition of a directory
+abbrev pub may_carry : NodeV → ℕ → ℕ → ℕ → ℕ → Bool
+may_carry node dir client seq part = ((part == 0) && (has_numbers node && owns node dir 0)) && is_new_change (judge_kept (session_in node dir 0 client) seq)
+
+-- whether the first record of a log is of this node, which is new
+abbrev pub is_head : NodeV → ℕ → ℕ → ℕ → ℕ → Bool
+is_head node format servers server threshold =
+    is_new node && (((format == 1) && (servers == node.setup.servers)) && ((server == node.server) && (threshold == node.setup.threshold)))
+
+-- whether a record may follow: enough directory numbers are left, and a request with its client, number and call would
+-- be noted here, in its partition and with its final reply; the record that begins a log follows on a new node of its
+-- numbers alone, and the one that begins a run always follows
+abbrev pub may_follow : StoreV → Record → Bool
+may_follow store (Served client seq part call said) =
+    has_numbers store.node && (carries (outcome store (ask_of client seq call) 0) said && (part == part_at store (asked_of call)))
+may_follow store (Head format servers server threshold) = is_head store.node format servers server threshold
+may_follow store Opened = true
+
+-- the store once a record was replayed; a record that may not follow changes nothing
+abbrev pub replayed_as : StoreV → Record → Bool → StoreV
+replayed_as store (Served client seq part call said) true = carried_at store client seq call (asked_of call)
+replayed_as store Opened true = record { node = cleared store.node; rows = store.rows }
+replayed_as store item follows = store
+
+abbrev pub replayed : StoreV → Record → StoreV
+replayed store item = replayed_as store item (may_follow store item)
+
+abbrev pub replayed_all : StoreV → List Record → StoreV
+replayed_all store [] = store
+replayed_all store (item ∷ items) = replayed_all (replayed store item) items
+
+-- the store once its server was restarted: there are no leases yet, so a restart sets nothing
+abbrev pub restarted : StoreV → ℕ → StoreV
+restarted store now = store
+
+-- what serving gave is what the specification says
+pub record IsServed (served : ServedV) (node : NodeV) (rows : RowMap) (handled : Handled) : Type 0 where
+  pub node' : node ≡ served.store.node
+  pub rows' : rows ≡ served.store.rows
+  pub records : handled.records ≡ served.records
+  pub outputs : handled.outputs ≡ served.outputs
+
+-- what replaying a record gave is what the specification says
+pub record IsReplayed (store : StoreV) (item : Record) (node : NodeV) (rows : RowMap) (follows : Bool) : Type 0 where
+  pub follows' : follows ≡ may_follow store item
+  pub node' : node ≡ (replayed store item).node
+  pub rows' : rows ≡ (replayed store item).rows

@@ -1,0 +1,472 @@
+ghost use Rattle.std.specs.Prelude.{◌≡◌, ℕ, ◌+◌, ◌^◌, ◌<◌, ◌≤◌, OnOk, OnErr, IfOk, true, false, unwrap_or, MatchBool, ◌≢◌};
+ghost use Rattle.std.specs.FinMap as map;
+ghost use Rattle.sessions.specs.declared.kept.Judged.{Judged};
+ghost use Rattle.sessions.specs.Kept.{judge_kept};
+ghost use Rattle.node_core.specs.Nodes.{part_cmp, new_part, new_node, owns, session_in, has_numbers};
+ghost use Rattle.mds_base.specs.RowsCause.{HasRowsCause};
+ghost use Rattle.node_core.specs.Edits.{parts_noted, node_noted, numbers_of};
+ghost use Rattle.node_core.specs.Rules.{ChangeOf, LookOf, asked_of, found};
+ghost use Rattle.records.specs.declared.record.Record.{Record};
+ghost use Rattle.node_core.specs.Serving.{serve, serve_ask, IsServed, IsReplayed, may_carry, restarted};
+ghost use Rattle.node_core.specs.Undoing.{before, before_in, undone};
+ghost use Rattle.node_core.specs.Ranges.{DirFits, RecordFits, dir_of};
+
+use crate::part::{Part, Weighed, weigh};
+use crate::rows::{key_of, write};
+use crate::told::{answered, nothing, recorded};
+use crate::undo::{Undo, undo_in};
+use mds_base::{Ask, Attr, Call, Final, Name, Reply, Rows, RowsFault, Setup};
+use placement::zeroth;
+use records::{Handled, Msg, Record};
+use sessions::{Judged, Kept};
+use std::alloc::{AllocError, Global};
+use std::collections::BTreeMap;
+use std::marker::Model;
+
+/// A server without its disk: what it keeps beside its rows (`docs/DEFINITIONS.md`, "Node").
+#[derive(Debug, Drop)]
+pub struct Node {
+    server: u32,
+    setup: Setup,
+    next: u64,
+    parts: BTreeMap<(u64, u32), Part>,
+}
+
+impl Model for Node {
+    ghost use Rattle.std.specs.FinMap as map;
+    ghost use Rattle.std.specs.Coded.{codes};
+    ghost use Rattle.node_core.specs.Nodes.{NodeV};
+
+    ghost Value = { NodeV };
+
+    ghost coded = { Prim.hlevel (codes, map.code) };
+
+    ghost use Rattle.node_core.specs.Ranges.{AreRanges};
+
+    ghost view = { λ a. record { server = a.server; setup = a.setup; next = a.next; parts = map.from_entries a.parts.entries } };
+
+    ghost invariant = { λ a. AreRanges a.server a.setup };
+}
+
+impl Node {
+    /// A node on which nothing was noted yet.
+    pub fn new(alloc: Global, server: u32, setup: Setup) -> Node
+        requires in_setup { server < setup.servers }
+        requires servers { setup.servers ≤ 32 }
+        requires lease { setup.lease ≤ 1000000 }
+        ensures { result ≡ new_node server setup }
+    {
+        Node {
+            server,
+            setup,
+            next: u64::from(server) * (1 << 40) + 2,
+            parts: BTreeMap::new(alloc),
+        }
+    }
+
+    /// The next directory number that the node gives.
+    pub fn next_id(&self) -> u64
+        ensures { result ≡ self.now.next }
+    {
+        self.next
+    }
+
+    /// Serves a message: the records of the changes that were carried out and the messages to send are handed out
+    /// (`docs/DEFINITIONS.md`, "Serving"). Where it is refused the node stays as it is, and the rows may be changed
+    /// in part. It takes a time that grows with the logarithms of the numbers of partitions and of clients, and with
+    /// what its look-up and its write of one row cost.
+    pub fn serve<R: Rows>(
+        &mut self,
+        alloc: Global,
+        rows: &mut R,
+        msg: &Msg,
+        now: u64,
+    ) -> Result<Handled, RowsFault>
+        requires fits { DirFits msg.now }
+        requires moment { now < 2 ^ 43 }
+        requires numbers { has_numbers self.old ≡ true }
+        ensures ok { IfOk result (λ handled. IsServed (serve (record { node = self.old; rows = R.contents rows.old }) msg.now now) self.new (R.contents rows.new) handled) }
+        ensures err { OnErr result (self.new ≡ self.old) }
+        ensures cause { HasRowsCause (R.faults rows.old) (R.faults rows.new) result }
+    {
+        match msg {
+            Msg::Request { ask, .. } => self.serve_ask(alloc, rows, ask, now),
+            _ => Ok(nothing(alloc)),
+        }
+    }
+
+    fn serve_ask<R: Rows>(
+        &mut self,
+        alloc: Global,
+        rows: &mut R,
+        ask: &Ask,
+        now: u64,
+    ) -> Result<Handled, RowsFault>
+        requires fits { dir_of ask.now.call < 2 ^ 48 }
+        requires moment { now < 2 ^ 43 }
+        requires numbers { has_numbers self.old ≡ true }
+        ensures ok { IfOk result (λ handled. IsServed (serve_ask (record { node = self.old; rows = R.contents rows.old }) ask.now now) self.new (R.contents rows.new) handled) }
+        ensures err { OnErr result (self.new ≡ self.old) }
+        ensures cause { HasRowsCause (R.faults rows.old) (R.faults rows.new) result }
+    {
+        match &ask.call {
+            Call::Create { dir, name } => self.change(alloc, rows, ask, *dir, name, now),
+            Call::Mkdir { dir, name } => self.change(alloc, rows, ask, *dir, name, now),
+            Call::Remove { dir, name } => self.change(alloc, rows, ask, *dir, name, now),
+            Call::Setattr { dir, name, .. } => self.change(alloc, rows, ask, *dir, name, now),
+            Call::Lookup { dir, name } => self.look(alloc, rows, ask, *dir, name, now),
+            Call::Scan { .. } => Ok(nothing(alloc)),
+            Call::Grab { .. } => Ok(nothing(alloc)),
+            Call::Load { .. } => Ok(nothing(alloc)),
+            Call::Link { .. } => Ok(nothing(alloc)),
+        }
+    }
+
+    fn look<R: Rows>(
+        &mut self,
+        alloc: Global,
+        rows: &mut R,
+        ask: &Ask,
+        dir: u64,
+        name: &Name,
+        now: u64,
+    ) -> Result<Handled, RowsFault>
+        requires asked { asked_of ask.now.call ≡ LookOf dir name.now }
+        requires fits { dir < 2 ^ 48 }
+        requires moment { now < 2 ^ 43 }
+        ensures ok { IfOk result (λ handled. IsServed (serve_ask (record { node = self.old; rows = R.contents rows.old }) ask.now now) self.new (R.contents rows.new) handled) }
+        ensures err { OnErr result (self.new ≡ self.old) }
+        ensures cause { HasRowsCause (R.faults rows.old) (R.faults rows.new) result }
+    {
+        if !self.owns(dir) {
+            return Ok(nothing(alloc));
+        }
+        let key = key_of(alloc, dir, name)?;
+        let attr = rows.get(&key)?;
+        let until = now + self.setup.lease;
+        let handled = answered(alloc, ask, found(attr, until))?;
+        Ok(handled)
+    }
+
+    fn change<R: Rows>(
+        &mut self,
+        alloc: Global,
+        rows: &mut R,
+        ask: &Ask,
+        dir: u64,
+        name: &Name,
+        now: u64,
+    ) -> Result<Handled, RowsFault>
+        requires asked { asked_of ask.now.call ≡ ChangeOf dir name.now }
+        requires fits { dir < 2 ^ 48 }
+        requires numbers { has_numbers self.old ≡ true }
+        ensures ok { IfOk result (λ handled. IsServed (serve_ask (record { node = self.old; rows = R.contents rows.old }) ask.now now) self.new (R.contents rows.new) handled) }
+        ensures err { OnErr result (self.new ≡ self.old) }
+        ensures cause { HasRowsCause (R.faults rows.old) (R.faults rows.new) result }
+    {
+        if !self.owns(dir) {
+            return Ok(nothing(alloc));
+        }
+        match self.judge(dir, ask.client, ask.seq) {
+            Judged::New => self.carry(alloc, rows, ask, dir, name, now),
+            Judged::Again(said) => Ok(answered(alloc, ask, Reply::Said(said))?),
+            Judged::Old { .. } => Ok(nothing(alloc)),
+        }
+    }
+
+    fn carry<R: Rows>(
+        &mut self,
+        alloc: Global,
+        rows: &mut R,
+        ask: &Ask,
+        dir: u64,
+        name: &Name,
+        now: u64,
+    ) -> Result<Handled, RowsFault>
+        requires asked { asked_of ask.now.call ≡ ChangeOf dir name.now }
+        requires own { owns self.old dir 0 ≡ true }
+        requires newer { judge_kept (session_in self.old dir 0 ask.now.client) ask.now.seq ≡ Judged.New }
+        requires numbers { has_numbers self.old ≡ true }
+        ensures ok { IfOk result (λ handled. IsServed (serve_ask (record { node = self.old; rows = R.contents rows.old }) ask.now now) self.new (R.contents rows.new) handled) }
+        ensures err { OnErr result (self.new ≡ self.old) }
+        ensures cause { HasRowsCause (R.faults rows.old) (R.faults rows.new) result }
+    {
+        let _moment = now;
+        let key = key_of(alloc, dir, name)?;
+        let before = rows.get(&key)?;
+        let weighed = weigh(&ask.call, before, self.next);
+        let handled = recorded(alloc, ask, weighed.said)?;
+        write(rows, key, weighed.edit)?;
+        self.note(alloc, dir, ask.client, ask.seq, weighed, before)?;
+        Ok(handled)
+    }
+
+    /// Replays the record of a change, and answers true exactly where it may follow (`docs/DEFINITIONS.md`, "Records
+    /// that may follow"); else nothing changes. Where it is refused the node stays as it is, and the rows may be changed in
+    /// part.
+    pub fn replay<R: Rows>(
+        &mut self,
+        alloc: Global,
+        rows: &mut R,
+        item: &Record,
+    ) -> Result<bool, RowsFault>
+        requires fits { RecordFits item.now }
+        ensures ok { IfOk result (λ follows. IsReplayed (record { node = self.old; rows = R.contents rows.old }) item.now self.new (R.contents rows.new) follows) }
+        ensures err { OnErr result (self.new ≡ self.old) }
+        ensures cause { HasRowsCause (R.faults rows.old) (R.faults rows.new) result }
+    {
+        match item {
+            Record::Served {
+                client,
+                seq,
+                part,
+                call,
+                said,
+            } => self.redo(alloc, rows, *client, *seq, *part, call, *said),
+            Record::Head { .. } => Ok(false),
+            Record::Opened => Ok(false),
+        }
+    }
+
+    fn redo<R: Rows>(
+        &mut self,
+        alloc: Global,
+        rows: &mut R,
+        client: u32,
+        seq: u64,
+        part: u32,
+        call: &Call,
+        said: Final,
+    ) -> Result<bool, RowsFault>
+        requires fits { dir_of call.now < 2 ^ 48 }
+        ensures ok { IfOk result (λ follows. IsReplayed (record { node = self.old; rows = R.contents rows.old }) (Record.Served client seq part call.now said) self.new (R.contents rows.new) follows) }
+        ensures err { OnErr result (self.new ≡ self.old) }
+        ensures cause { HasRowsCause (R.faults rows.old) (R.faults rows.new) result }
+    {
+        match call {
+            Call::Create { dir, name } => {
+                self.redo_at(alloc, rows, client, seq, part, call, said, *dir, name)
+            }
+            Call::Mkdir { dir, name } => {
+                self.redo_at(alloc, rows, client, seq, part, call, said, *dir, name)
+            }
+            Call::Remove { dir, name } => {
+                self.redo_at(alloc, rows, client, seq, part, call, said, *dir, name)
+            }
+            Call::Setattr { dir, name, .. } => {
+                self.redo_at(alloc, rows, client, seq, part, call, said, *dir, name)
+            }
+            Call::Lookup { .. } => Ok(false),
+            Call::Scan { .. } => Ok(false),
+            Call::Grab { .. } => Ok(false),
+            Call::Load { .. } => Ok(false),
+            Call::Link { .. } => Ok(false),
+        }
+    }
+
+    fn redo_at<R: Rows>(
+        &mut self,
+        alloc: Global,
+        rows: &mut R,
+        client: u32,
+        seq: u64,
+        part: u32,
+        call: &Call,
+        said: Final,
+        dir: u64,
+        name: &Name,
+    ) -> Result<bool, RowsFault>
+        requires asked { asked_of call.now ≡ ChangeOf dir name.now }
+        requires fits { dir < 2 ^ 48 }
+        ensures ok { IfOk result (λ follows. IsReplayed (record { node = self.old; rows = R.contents rows.old }) (Record.Served client seq part call.now said) self.new (R.contents rows.new) follows) }
+        ensures err { OnErr result (self.new ≡ self.old) }
+        ensures cause { HasRowsCause (R.faults rows.old) (R.faults rows.new) result }
+    {
+        if !self.may_carry(dir, client, seq, part) {
+            return Ok(false);
+        }
+        let key = key_of(alloc, dir, name)?;
+        let before = rows.get(&key)?;
+        let weighed = weigh(call, before, self.next);
+        if differs(weighed.said, said) {
+            return Ok(false);
+        }
+        write(rows, key, weighed.edit)?;
+        self.note(alloc, dir, client, seq, weighed, before)?;
+        Ok(true)
+    }
+
+    fn may_carry(&self, dir: u64, client: u32, seq: u64, part: u32) -> bool
+        requires { dir < 2 ^ 48 }
+        ensures { result ≡ may_carry self.now dir client seq part }
+    {
+        part == 0
+            && self.has_numbers()
+            && self.owns(dir)
+            && self.judge(dir, client, seq) == Judged::New
+    }
+
+    /// What serving the message may change in the node, so that it can be taken back; None where serving changes
+    /// nothing. It takes no memory.
+    pub fn before(&self, msg: &Msg) -> Option<Undo>
+        ensures { result ≡ before self.now msg.now }
+    {
+        match msg {
+            Msg::Request { ask, .. } => match &ask.call {
+                Call::Create { dir, .. } => Some(self.before_in(*dir, ask.client)),
+                Call::Mkdir { dir, .. } => Some(self.before_in(*dir, ask.client)),
+                Call::Remove { dir, .. } => Some(self.before_in(*dir, ask.client)),
+                Call::Setattr { dir, .. } => Some(self.before_in(*dir, ask.client)),
+                Call::Lookup { .. } => None,
+                Call::Scan { .. } => None,
+                Call::Grab { .. } => None,
+                Call::Load { .. } => None,
+                Call::Link { .. } => None,
+            },
+            Msg::Redirect { .. } => None,
+            Msg::Answer { .. } => None,
+            Msg::Busy { .. } => None,
+            Msg::Held { .. } => None,
+            Msg::Transfer { .. } => None,
+            Msg::Installed { .. } => None,
+        }
+    }
+
+    fn before_in(&self, dir: u64, client: u32) -> Undo
+        ensures { result ≡ before_in self.now dir client }
+    {
+        let kept = self.kept(dir, client);
+        match self.parts.get(&(dir, 0)) {
+            None => Undo {
+                dir,
+                client,
+                kept,
+                count: 0,
+                there: false,
+                next: self.next,
+            },
+            Some(part) => Undo {
+                dir,
+                client,
+                kept,
+                count: part.count,
+                there: true,
+                next: self.next,
+            },
+        }
+    }
+
+    fn kept(&self, dir: u64, client: u32) -> Option<Kept>
+        ensures { result ≡ session_in self.now dir 0 client }
+    {
+        match self.parts.get(&(dir, 0)) {
+            None => None,
+            Some(part) => part.sessions.kept(client),
+        }
+    }
+
+    /// Takes a Serve back that was made and is not to be kept: what `before` gave is put back. It takes no memory.
+    pub fn undo(&mut self, undo: Undo)
+        ensures { self.new ≡ undone self.old undo }
+    {
+        undo_in(&mut self.parts, undo);
+        self.next = undo.next;
+    }
+
+    /// Whether the node has the directory numbers that serving one message may want.
+    pub fn has_numbers(&self) -> bool
+        ensures { result ≡ has_numbers self.now }
+    {
+        self.next <= (u64::from(self.server) + 1) * (1 << 40) - (1 << 18)
+    }
+
+    /// Sets what a restart sets: nothing yet, since there are no leases.
+    pub fn restarted(&mut self, now: u64)
+        ensures { self.new ≡ (restarted (record { node = self.old; rows = map.empty }) now).node }
+    {
+        let _moment = now;
+    }
+
+    // Notes a change in partition 0 of a directory. At a refusal the node stays as it is.
+    fn note(
+        &mut self,
+        alloc: Global,
+        dir: u64,
+        client: u32,
+        seq: u64,
+        weighed: Weighed,
+        before: Option<Attr>,
+    ) -> Result<(), AllocError>
+        requires newer { judge_kept (session_in self.old dir 0 client) seq ≡ Judged.New }
+        requires numbers { has_numbers self.old ≡ true }
+        ensures ok { OnOk result (self.new ≡ node_noted self.old dir client seq weighed.said weighed.edit before) }
+        ensures err { OnErr result (self.new ≡ self.old) }
+    {
+        note_in(alloc, &mut self.parts, dir, client, seq, weighed, before)?;
+        self.next += numbers_of(weighed.said);
+        Ok(())
+    }
+
+    fn owns(&self, dir: u64) -> bool
+        requires { dir < 2 ^ 48 }
+        ensures { result ≡ owns self.now dir 0 }
+    {
+        zeroth(dir, self.setup.servers) == self.server
+    }
+
+    fn judge(&self, dir: u64, client: u32, seq: u64) -> Judged
+        ensures { result ≡ judge_kept (session_in self.now dir 0 client) seq }
+    {
+        match self.parts.get(&(dir, 0)) {
+            None => Judged::New,
+            Some(part) => part.sessions.judge(client, seq),
+        }
+    }
+}
+
+// Notes a change in partition 0 of a directory. At a refusal the partitions stay as they are.
+fn note_in(
+    alloc: Global,
+    parts: &mut BTreeMap<(u64, u32), Part>,
+    dir: u64,
+    client: u32,
+    seq: u64,
+    weighed: Weighed,
+    before: Option<Attr>,
+) -> Result<(), AllocError>
+    requires { judge_kept (map.get (unwrap_or (map.get (map.from_entries {R = part_cmp} parts.old.entries) (dir, 0)) new_part).sessions client) seq ≡ Judged.New }
+    ensures ok { OnOk result (map.from_entries {R = part_cmp} parts.new.entries ≡ parts_noted (map.from_entries {R = part_cmp} parts.old.entries) (dir, 0) client seq weighed.said weighed.edit before) }
+    ensures err { OnErr result (map.from_entries {R = part_cmp} parts.new.entries ≡ map.from_entries {R = part_cmp} parts.old.entries) }
+{
+    if let Some(part) = parts.get_mut(&(dir, 0)) {
+        return part.note(client, seq, weighed, before);
+    }
+    let mut part = Part::new(alloc);
+    part.note(client, seq, weighed, before)?;
+    parts.insert((dir, 0), part)?;
+    Ok(())
+}
+
+fn numbers_of(said: Final) -> u64
+    ensures { result ≡ numbers_of said }
+{
+    match said {
+        Final::CreatedDir(_) => 1,
+        _ => 0,
+    }
+}
+
+fn found(attr: Option<Attr>, until: u64) -> Reply
+    ensures { result ≡ found attr until }
+{
+    match attr {
+        None => Reply::Said(Final::Missing),
+        Some(attr) => Reply::Found { attr, until },
+    }
+}
+
+fn differs(a: Final, b: Final) -> bool
+    ensures { MatchBool result (a ≢ b) (a ≡ b) }
+{
+    a != b
+}

@@ -1,0 +1,106 @@
+-- What an outcome of serving a request tells of the store, and that the record of a change may follow there.
+use Rattle.std.proofs.Common.{◌≡◌, ◌∙◌, sym, ap, refl, ℕ, ◌+◌, ◌==◌, ◌&&◌, Bool, true, false, cond, List, Some, arith}
+use Rattle.std.proofs.lemmas.Bool.Decides.{nat_tests}
+use Rattle.mds_base.specs.declared.ask.Ask.{Ask}
+use Rattle.mds_base.specs.declared.call.Call.{Call}
+use Rattle.mds_base.specs.declared.reply.Final.{Final}
+use Rattle.mds_base.specs.declared.reply.Reply.{Reply}
+use Rattle.records.specs.declared.record.Record.TheVariants.{Served}
+use Rattle.sessions.specs.declared.kept.Kept.{Kept}
+use Rattle.sessions.specs.declared.kept.Judged.{Judged}
+use Rattle.sessions.specs.declared.kept.Judged.TheVariants.{New, Again, Old}
+use Rattle.sessions.specs.Kept.{judge_kept}
+use Rattle.node_core.specs.Nodes.{StoreV, owns, has_numbers, row_in, session_in, server_for}
+use Rattle.node_core.specs.Rules.{Asked, ChangeOf, LookOf, NotServed, asked_of, said_in, found, Outcome, Silent, Looks, Repeats, Carries, by_judged, outcome_of, outcome}
+use Rattle.node_core.specs.Serving.{same_final, final_tag, carries, may_follow, part_at, ask_of}
+use Rattle.world.proofs.Choices.{judged_again}
+
+pub record LooksTrue (store : StoreV) (ask : Ask) (now : ℕ) (reply : Reply) : Type 0 where
+  pub dir : ℕ
+  pub name : List ℕ
+  pub asked : asked_of ask.call ≡ LookOf dir name
+  pub owner : owns store.node dir 0 ≡ true
+  pub reply' : reply ≡ found (row_in store.rows dir 0 name) (now + store.node.setup.lease)
+
+pub record RepeatsTrue (store : StoreV) (ask : Ask) (said : Final) : Type 0 where
+  pub dir : ℕ
+  pub owner : owns store.node dir 0 ≡ true
+  pub kept : Kept
+  pub session : session_in store.node dir 0 ask.client ≡ Some kept
+  pub seq : kept.seq ≡ ask.seq
+  pub said' : kept.said ≡ said
+
+pub record CarriesTrue (store : StoreV) (ask : Ask) (said : Final) : Type 0 where
+  pub dir : ℕ
+  pub name : List ℕ
+  pub asked : asked_of ask.call ≡ ChangeOf dir name
+  pub owner : owns store.node dir 0 ≡ true
+  pub newer : judge_kept (session_in store.node dir 0 ask.client) ask.seq ≡ New
+  pub said' : said ≡ said_in store ask.call dir name
+
+abbrev pub OutcomeTrue : StoreV → Ask → ℕ → Outcome → Type 0
+OutcomeTrue store ask now Silent = Unit {0}
+OutcomeTrue store ask now (Looks reply) = LooksTrue store ask now reply
+OutcomeTrue store ask now (Repeats said) = RepeatsTrue store ask said
+OutcomeTrue store ask now (Carries said) = CarriesTrue store ask said
+
+judged_true : (store : StoreV) (ask : Ask) (now dir : ℕ) (name : List ℕ) → asked_of ask.call ≡ ChangeOf dir name → owns store.node dir 0 ≡ true
+    → (j : Judged) → judge_kept (session_in store.node dir 0 ask.client) ask.seq ≡ j → OutcomeTrue store ask now (by_judged j (said_in store ask.call dir name))
+judged_true store ask now dir name asked owner New e = record { dir = dir; name = name; asked = asked; owner = owner; newer = e; said' = refl }
+judged_true store ask now dir name asked owner (Again said) e =
+    let h = judged_again (session_in store.node dir 0 ask.client) ask.seq said e in
+    record { dir = dir; owner = owner; kept = h.0; session = h.1; seq = h.2; said' = h.3 }
+judged_true store ask now dir name asked owner (Old kept) e = tt
+
+change_true : (store : StoreV) (ask : Ask) (now dir : ℕ) (name : List ℕ) → asked_of ask.call ≡ ChangeOf dir name → (b : Bool) → owns store.node dir 0 ≡ b
+    → OutcomeTrue store ask now (cond b (by_judged (judge_kept (session_in store.node dir 0 ask.client) ask.seq) (said_in store ask.call dir name)) Silent)
+change_true store ask now dir name asked true e = judged_true store ask now dir name asked e (judge_kept (session_in store.node dir 0 ask.client) ask.seq) refl
+change_true store ask now dir name asked false e = tt
+
+look_true : (store : StoreV) (ask : Ask) (now dir : ℕ) (name : List ℕ) → asked_of ask.call ≡ LookOf dir name → (b : Bool) → owns store.node dir 0 ≡ b
+    → OutcomeTrue store ask now (cond b (Looks (found (row_in store.rows dir 0 name) (now + store.node.setup.lease))) Silent)
+look_true store ask now dir name asked true e = record { dir = dir; name = name; asked = asked; owner = e; reply' = refl }
+look_true store ask now dir name asked false e = tt
+
+outcome_at : (store : StoreV) (ask : Ask) (now : ℕ) (a : Asked) → asked_of ask.call ≡ a → OutcomeTrue store ask now (outcome_of store ask now a)
+outcome_at store ask now (ChangeOf dir name) e = change_true store ask now dir name e (owns store.node dir 0) refl
+outcome_at store ask now (LookOf dir name) e = look_true store ask now dir name e (owns store.node dir 0) refl
+outcome_at store ask now NotServed e = tt
+
+pub outcome_true : (store : StoreV) (ask : Ask) (now : ℕ) → OutcomeTrue store ask now (outcome store ask now)
+outcome_true store ask now = outcome_at store ask now (asked_of ask.call) refl
+
+same_of : (a b : ℕ) → (a == b) ≡ true → a ≡ b
+same_of a b e = grind (arith, nat_tests)
+
+self_of : (a b : ℕ) → a ≡ b → (a == b) ≡ true
+self_of a b e = grind (arith, nat_tests)
+
+both_true : (a b : Bool) → a ≡ true → b ≡ true → (a && b) ≡ true
+both_true true b e f = f
+both_true false b e f = e
+
+same_final_self : (said : Final) → same_final said said ≡ true
+same_final_self said = both_true ((final_tag said).0 == (final_tag said).0) ((final_tag said).1 == (final_tag said).1) (self_of (final_tag said).0 (final_tag said).0 refl) (self_of (final_tag said).1 (final_tag said).1 refl)
+
+pub owner_of : (store : StoreV) (dir servers s : ℕ) → owns store.node dir 0 ≡ true → store.node.setup.servers ≡ servers → store.node.server ≡ s → server_for servers dir 0 ≡ s
+owner_of store dir servers s owner e f =
+    let h : server_for store.node.setup.servers dir 0 ≡ store.node.server = same_of (server_for store.node.setup.servers dir 0) store.node.server owner in
+    sym (ap (λ n. server_for n dir 0) e) ∙ h ∙ f
+
+pub owns_of : (store : StoreV) (dir servers s : ℕ) → server_for servers dir 0 ≡ s → store.node.setup.servers ≡ servers → store.node.server ≡ s → owns store.node dir 0 ≡ true
+owns_of store dir servers s owner e f = self_of (server_for store.node.setup.servers dir 0) store.node.server (ap (λ n. server_for n dir 0) e ∙ owner ∙ sym f)
+
+-- a record whose change would be carried out may follow
+pub may_follow_true : (store : StoreV) (client seq part : ℕ) (call : Call) (said : Final) (dir : ℕ) (name : List ℕ) → asked_of call ≡ ChangeOf dir name → owns store.node dir 0 ≡ true
+    → judge_kept (session_in store.node dir 0 client) seq ≡ New → has_numbers store.node ≡ true → said ≡ said_in store call dir name → part ≡ 0
+    → may_follow store (Served client seq part call said) ≡ true
+may_follow_true store client seq part call said dir name asked owner newer numbers is_said is_part =
+    let carried : outcome store (ask_of client seq call) 0 ≡ Carries said =
+    ap (outcome_of store (ask_of client seq call) 0) asked
+    ∙ ap (λ b. cond b (by_judged (judge_kept (session_in store.node dir 0 client) seq) (said_in store call dir name)) Silent) owner
+    ∙ ap (λ j. by_judged j (said_in store call dir name)) newer
+    ∙ ap Carries (sym is_said) in
+    let first : carries (outcome store (ask_of client seq call) 0) said ≡ true = ap (λ o. carries o said) carried ∙ same_final_self said in
+    let second : (part == part_at store (asked_of call)) ≡ true = self_of part (part_at store (asked_of call)) (is_part ∙ sym (ap (part_at store) asked)) in
+    both_true (has_numbers store.node) _ numbers (both_true _ _ first second)

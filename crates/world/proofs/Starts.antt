@@ -1,0 +1,222 @@
+-- Starts of runs: the invariant holds of a run that begins with them, new servers are one, and what an opening makes of
+-- the end of a run is one again.
+use Rattle.std.proofs.Common.{◌≡◌, ◌∙◌, sym, ap, subst, refl, ℕ, zero, suc, ◌+◌, ◌<◌, true, false, List, [], ◌∷◌, length, Option, Some, None, inl, inr, arith, unwrap_or}
+use Rattle.std.specs.Prelude.{map as list_map}
+use Rattle.std.specs.List.{slice_get, range_with_len, IsDistinct}
+use Rattle.std.specs.FinMap as map
+use Rattle.std.specs.FinSet as set
+use Rattle.std.specs.Ordering.{nat_cmp, eq_by_cmp}
+use Rattle.std.specs.Cmp.{nat_cmp_total}
+use Rattle.mds_base.specs.declared.setup.Setup.{Setup}
+use Rattle.mds_base.specs.Entries.{Entries, place_cmp}
+use Rattle.mds_base.specs.RowKeys.{row_key_cmp}
+use Rattle.mds_base.specs.History.{IsLegal}
+use Rattle.bitmap.specs.Bits.{has}
+use Rattle.node_core.specs.Nodes.{new_node, server_for, session_in, row_in, row_key, part_cmp, new_part}
+use Rattle.node_core.proofs.Views.{session_cleared}
+use Rattle.client_core.specs.declared.client.Pending.{Pending}
+use Rattle.client_core.specs.Clients.{new_client, zero_bits}
+use Rattle.world.specs.declared.state.ServerState.{ServerState}
+use Rattle.world.specs.declared.state.ClientState.{ClientState}
+use Rattle.world.specs.Lists.{Each, OnceBy}
+use Rattle.world.specs.Worlds.{store_of, new_server, new_seat, fresh_world}
+use Rattle.world.specs.Histories.{Trace}
+use Rattle.world.specs.Law.{row_or, row_at, start_trace, new_servers, opened}
+use Rattle.world.proofs.Happens.{same_key}
+use Rattle.world.proofs.Filters.{or_cases}
+use Rattle.world.proofs.Invariant.{Inv, IsServer, IsClient, AreKept, IsWithinRange, Follows, store_in, store_or}
+use Rattle.world.proofs.Grow.{within}
+use Rattle.world.proofs.Stores.{store_was}
+
+pub record IsStartServer (setup : Setup) (s : ℕ) (state : ServerState) : Type 0 where
+  pub is_server : IsServer setup s state
+  pub up : state.up ≡ true
+  pub doubt : state.doubt ≡ []
+  pub sessions : (dir part client : ℕ) → session_in state.node dir part client ≡ None
+  pub next : IsWithinRange s (store_of state)
+
+pub record IsStart (setup : Setup) (servers : List ServerState) (entries : Entries) : Type 0 where
+  pub some_servers : 0 < setup.servers
+  pub count : length servers ≡ setup.servers
+  pub each : Each servers (λ s state. IsStartServer setup s state)
+  pub rows : (dir : ℕ) (name : List ℕ) → map.get entries (dir, name) ≡ row_at setup servers dir name
+
+-- Lists
+
+ranged : {X : Type 0} (f : ℕ → X) (a n k : ℕ) (x : X) → slice_get (list_map f (range_with_len a n)) k ≡ Some x → f (a + k) ≡ x
+ranged f a zero k x e = cc
+ranged f a (suc n) zero x e = let s : f a ≡ x = cc in let z : a + 0 ≡ a = omega arith in ap f z ∙ s
+ranged f a (suc n) (suc k) x e = let z : a + suc k ≡ (a + 1) + k = omega arith in ap f z ∙ ranged f (a + 1) n k x e
+
+ranged_length : {X : Type 0} (f : ℕ → X) (a n : ℕ) → length (list_map f (range_with_len a n)) ≡ n
+ranged_length f a zero = refl
+ranged_length f a (suc n) = ap suc (ranged_length f (a + 1) n)
+
+pub get_below : {X : Type 0} (xs : List X) (k : ℕ) → k < length xs → (x : X) × (slice_get xs k ≡ Some x)
+get_below [] k lt = absurd (omega arith)
+get_below (x ∷ xs) zero lt = (x, refl)
+get_below (x ∷ xs) (suc k) lt = get_below xs k (omega arith)
+
+pub get_mapped : {X Y : Type 0} (f : X → Y) (xs : List X) (k : ℕ) (y : Y) → slice_get (list_map f xs) k ≡ Some y → (x : X) × (slice_get xs k ≡ Some x) × (f x ≡ y)
+get_mapped f [] k y e = cc
+get_mapped f (x ∷ xs) zero y e = let s : f x ≡ y = cc in (x, refl, s)
+get_mapped f (x ∷ xs) (suc k) y e = get_mapped f xs k y e
+
+mapped_length : {X Y : Type 0} (f : X → Y) (xs : List X) → length (list_map f xs) ≡ length xs
+mapped_length f [] = refl
+mapped_length f (x ∷ xs) = ap suc (mapped_length f xs)
+
+none_at : {X : Type 0} {P : ℕ → X → Type 0} → Each [] P
+none_at = record { at = λ k x e. cc }
+
+none_once : {X : Type 0} {Alike : X → X → Type 0} → OnceBy [] Alike
+none_once = record { same = λ i j x y ei ej alike. cc }
+
+-- What an absent server keeps
+
+no_row : (dir : ℕ) (name : List ℕ) → row_in map.empty dir 0 name ≡ None
+unfolding row_in
+no_row dir name = map.get-empty row_key_cmp (row_key dir 0 name)
+
+pub no_session : (server : ℕ) (setup : Setup) (dir part client : ℕ) → session_in (new_node server setup) dir part client ≡ None
+unfolding session_in
+no_session server setup dir part client =
+    ap (λ o. map.get (unwrap_or o new_part).sessions client) (map.get-empty part_cmp (dir, part)) ∙ map.get-empty nat_cmp client
+
+row_of_store : (o : Option ServerState) (dir : ℕ) (name : List ℕ) → row_in (store_or o).rows dir 0 name ≡ row_or o dir name
+row_of_store None dir name = no_row dir name
+row_of_store (Some state) dir name = refl
+
+pub row_in_store : (servers : List ServerState) (k dir : ℕ) (name : List ℕ) → row_in (store_in servers k).rows dir 0 name ≡ row_or (slice_get servers k) dir name
+unfolding store_in
+row_in_store servers k dir name = row_of_store (slice_get servers k) dir name
+
+-- The invariant at the start
+
+nothing_legal : (entries : Entries) → IsLegal entries []
+unfolding IsDistinct
+nothing_legal entries = record { allowed = tt; from_two = tt; once = tt }
+
+module _ (setup : Setup) (servers : List ServerState) (entries : Entries) (start : IsStart setup servers entries) where
+  session_none : (o : Option ServerState) (k : ℕ) → slice_get servers k ≡ o → (dir part client : ℕ) → session_in (store_or o).node dir part client ≡ None
+  session_none None k is dir part client = no_session 0 _ dir part client
+  session_none (Some state) k is dir part client = (start.each.at k state is).sessions dir part client
+
+  session_at : (k dir part client : ℕ) → session_in (store_in servers k).node dir part client ≡ None
+  unfolding store_in
+  session_at k dir part client = session_none (slice_get servers k) k refl dir part client
+
+  within_at : (s : ℕ) → s < setup.servers → IsWithinRange s (store_in servers s)
+  unfolding store_in
+  within_at s lt =
+      let c = start.count in
+      let g = get_below servers s (omega arith) in
+      subst (λ o. IsWithinRange s (store_or o)) (sym g.1) (start.each.at s g.0 g.1).next
+
+  seats : (k : ℕ) (seat : ClientState) → slice_get (fresh_world setup servers).clients k ≡ Some seat → new_seat setup (1 + k) ≡ seat
+  seats k seat e = ranged (new_seat setup) 1 setup.clients k seat e
+
+  is_client : (k : ℕ) (seat : ClientState) → slice_get (fresh_world setup servers).clients k ≡ Some seat → IsClient setup k seat
+  is_client k seat e = let n : 1 + k ≡ suc k = omega arith in subst (IsClient setup k) (seats k seat e) (record { number = n; setup' = refl })
+
+  none_open : (k : ℕ) (seat : ClientState) (pending : Pending) → slice_get (fresh_world setup servers).clients k ≡ Some seat → seat.client.pending ≡ Some pending → ⊥
+  none_open k seat pending e busy = let idle : None ≡ seat.client.pending = ap (λ (s : ClientState). s.client.pending) (seats k seat e) in cc
+
+  zero_kept : (number : ℕ) → AreKept (new_client number setup)
+  zero_kept number dir part e =
+      let at_zero : has zero_bits part ≡ true = sym (ap (λ o. has (unwrap_or o zero_bits) part) (map.get-empty nat_cmp dir)) ∙ e in
+      elim (or_cases (eq_by_cmp nat_cmp part 0) (has set.empty part) (sym (set.contains-insert nat_cmp_total set.empty 0 part) ∙ at_zero)) [
+        | inl h ↦ same_key part 0 h
+        | inr h ↦ let n : has (set.empty {R = nat_cmp}) part ≡ false = set.contains-empty nat_cmp part in cc
+      ]
+
+  pub start_inv : Inv (start_trace setup servers entries)
+  start_inv = record {
+    sizes = record {
+      some_servers = start.some_servers;
+      server_count = start.count;
+      servers_are = record { at = λ k state is. (start.each.at k state is).is_server };
+      clients_are = record { at = is_client };
+    };
+    rows = record { map_rows = λ dir name. start.rows dir name ∙ sym (row_in_store servers (server_for setup.servers dir 0) dir name) };
+    calls = record {
+      issued_below = none_at;
+      issued_once = none_once;
+      open_issued = λ k seat pending at busy. absurd (none_open k seat pending at busy);
+      open_unanswered = λ k seat pending at busy. none_at;
+      answered_below = none_at;
+      answered_once = none_once;
+    };
+    made = record { made_issued = none_at; made_now = none_at; made_kind = none_at; looked_sent = none_at; looked_once = none_once; change_once = none_once };
+    legal = record { legal = nothing_legal entries; now = refl };
+    sessions = record {
+      session_true = λ dir part client kept e. let n = session_at (server_for setup.servers dir part) dir part client in cc;
+      session_covers = λ k e at kind dir name asked. cc;
+    };
+    messages = record { request_true = none_at; answer_true = none_at };
+    answers = record { answered_taken = none_at; answered_made = none_at };
+    numbers = record { next_within = within_at; given_below = tt };
+    doubt = record {
+      doubt_down = record { at = λ k state is up. (start.each.at k state is).doubt };
+      doubt_follows = record { at = λ k state is. subst (Follows setup.servers [] k (store_of state)) (sym (start.each.at k state is).doubt) tt };
+    };
+    bits = record { sent_kept = none_at; bits_kept = record { at = λ k seat at. subst (λ (s : ClientState). AreKept s.client) (seats k seat at) (zero_kept (1 + k)) } };
+  }
+
+-- New servers are a start
+
+row_of_new : (setup : Setup) (a n k dir : ℕ) (name : List ℕ) → row_or (slice_get (list_map (new_server setup) (range_with_len a n)) k) dir name ≡ None
+row_of_new setup a zero k dir name = refl
+row_of_new setup a (suc n) zero dir name = no_row dir name
+row_of_new setup a (suc n) (suc k) dir name = row_of_new setup (a + 1) n k dir name
+
+pub start_new : (setup : Setup) → 0 < setup.servers → IsStart setup (new_servers setup) map.empty
+start_new setup some = record {
+  some_servers = some;
+  count = ranged_length (new_server setup) 0 setup.servers;
+  each = record {
+    at = λ k state e.
+        let n : 0 + k ≡ k = omega arith in
+        let is : new_server setup k ≡ state = ap (new_server setup) (sym n) ∙ ranged (new_server setup) 0 setup.servers k state e in
+        subst (IsStartServer setup k) is (record {
+          is_server = record { server = refl; setup' = refl };
+          up = refl;
+          doubt = refl;
+          sessions = no_session k setup;
+          next = record { from = omega arith; to = omega arith };
+        });
+  };
+  rows = λ dir name. map.get-empty place_cmp (dir, name) ∙ sym (row_of_new setup 0 setup.servers (server_for setup.servers dir 0) dir name);
+}
+
+-- What an opening makes of servers that are up is a start
+
+opened_row : (servers : List ServerState) (k dir : ℕ) (name : List ℕ) → row_or (slice_get (list_map opened servers) k) dir name ≡ row_or (slice_get servers k) dir name
+opened_row [] k dir name = refl
+opened_row (state ∷ servers) zero dir name = refl
+opened_row (state ∷ servers) (suc k) dir name = opened_row servers k dir name
+
+pub start_again : (t : Trace) → Inv t → ((k : ℕ) (state : ServerState) → slice_get t.world.servers k ≡ Some state → state.up ≡ true) → IsStart t.world.setup (list_map opened t.world.servers) t.past.entries
+start_again t inv up = record {
+  some_servers = inv.sizes.some_servers;
+  count = mapped_length opened t.world.servers ∙ inv.sizes.server_count;
+  each = record {
+    at = λ k state e.
+        let g = get_mapped opened t.world.servers k state e in
+        let c = inv.sizes.server_count in
+        let w = within t.world.servers k g.0 g.1 in
+        let old = inv.sizes.servers_are.at k g.0 g.1 in
+        let range : IsWithinRange k (store_of g.0) = subst (IsWithinRange k) (store_was t.world.servers k g.0 g.1) (inv.numbers.next_within k (omega arith)) in
+        subst (IsStartServer t.world.setup k) g.2 (record {
+          is_server = record { server = old.server; setup' = old.setup' };
+          up = up k g.0 g.1;
+          doubt = inv.doubt.doubt_down.at k g.0 g.1 (up k g.0 g.1);
+          sessions = session_cleared g.0.node;
+          next = record { from = range.from; to = range.to };
+        });
+  };
+  rows = λ dir name.
+      inv.rows.map_rows dir name
+      ∙ row_in_store t.world.servers (server_for t.world.setup.servers dir 0) dir name
+      ∙ sym (opened_row t.world.servers (server_for t.world.setup.servers dir 0) dir name);
+}

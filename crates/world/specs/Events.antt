@@ -1,0 +1,234 @@
+-- When an event is enabled in a world, and the world after it.
+use Rattle.std.specs.Prelude.{ℕ, zero, suc, ◌+◌, ◌^◌, ◌&&◌, ◌||◌, ◌==◌, not, Bool, true, false, List, [], ◌∷◌, ◌++◌, length, take, slice_set, Option, Some, None, nat_le, nat_lt}
+use Rattle.std.specs.List.{slice_get, list_all, list_any}
+use Rattle.std.specs.FinSet as set
+use Rattle.mds_base.specs.declared.call.Call.{Call}
+use Rattle.mds_base.specs.declared.call.Call.TheVariants.{Create, Mkdir, Remove, Lookup, Setattr, Scan, Grab, Load, Link}
+use Rattle.records.specs.declared.msg.Msg.{Msg}
+use Rattle.records.specs.declared.msg.Msg.TheVariants.{Request, Redirect, Answer, Busy, Held, Transfer, Installed}
+use Rattle.bitmap.specs.Bits.{Bits, has}
+use Rattle.node_core.specs.Nodes.{StoreV, has_numbers}
+use Rattle.node_core.specs.Serving.{ServedV, serve_all, replayed_all, restarted}
+use Rattle.client_core.specs.declared.client.Pending.{Pending}
+use Rattle.client_core.specs.Clients.{ClientV, issued, issue_msg, resent, resend_msg, merged, bits_in}
+use Rattle.client_core.specs.Taking as taking
+use Rattle.world.specs.declared.event.Event.{Event}
+use Rattle.world.specs.declared.event.Event.TheVariants.{Issue, Resend, Serve, Miss, Take, Cached, Hint, Remind, Stop, Restart, Tick, GiveUp, Verdict}
+use Rattle.world.specs.declared.event.ServeEnd.{ServeEnd}
+use Rattle.world.specs.declared.event.ServeEnd.TheVariants as ends
+use Rattle.world.specs.declared.event.StopCause.{StopCause}
+use Rattle.world.specs.declared.event.StopCause.TheVariants.{Asked, Device}
+use Rattle.world.specs.declared.state.ServerState.{ServerState}
+use Rattle.world.specs.declared.state.ClientState.{ClientState}
+use Rattle.world.specs.Worlds.{WorldV, store_of, with_store}
+
+-- When an event is enabled
+
+abbrev pub is_dir : ℕ → Bool
+is_dir dir = nat_le 1 dir && nat_lt dir (2 ^ 48)
+
+-- a call that is within its ranges and is served at all; scans, grabs, loads and links are not yet
+abbrev pub is_call : Call → Bool
+is_call (Create dir name) = is_dir dir
+is_call (Mkdir dir name) = is_dir dir
+is_call (Remove dir name) = is_dir dir
+is_call (Lookup dir name) = is_dir dir
+is_call (Setattr dir name mode size) = is_dir dir && nat_le mode 4095
+is_call (Scan dir) = false
+is_call (Grab dir name count) = false
+is_call (Load dir rows) = false
+is_call (Link dir name id) = false
+
+-- the server that a message is for, and the client
+abbrev pub is_for_server : ℕ → Option Msg → Bool
+is_for_server server (Some (Request to ask cursor)) = to == server
+is_for_server server (Some (Transfer to dir part depth bits sessions top rows)) = to == server
+is_for_server server (Some (Installed to dir part child)) = to == server
+is_for_server server msg = false
+
+abbrev pub is_for_client : ℕ → Option Msg → Bool
+is_for_client client (Some (Redirect to seq attempt dir bits)) = to == client
+is_for_client client (Some (Answer to seq attempt reply)) = to == client
+is_for_client client (Some (Busy to seq attempt part depth)) = to == client
+is_for_client client (Some (Held to seq attempt until)) = to == client
+is_for_client client msg = false
+
+-- the attempts of an open call leave room for further ones
+abbrev pub has_room : Option Pending → Bool
+has_room None = true
+has_room (Some pending) = nat_lt pending.attempt (2 ^ 31)
+
+abbrev pub is_open : Option Pending → Bool
+is_open None = false
+is_open (Some pending) = true
+
+abbrev pub can_issue : Option ClientState → Call → Bool
+can_issue None call = false
+can_issue (Some seat) call = (not seat.quit && not (is_open seat.client.pending)) && (nat_lt seat.client.seq (2 ^ 63) && is_call call)
+
+abbrev pub can_resend : Option ClientState → Bool
+can_resend None = false
+can_resend (Some seat) = (not seat.quit && is_open seat.client.pending) && (nat_lt seat.client.seq (2 ^ 63) && has_room seat.client.pending)
+
+abbrev pub can_take : Option ClientState → Bool
+can_take None = false
+can_take (Some seat) = nat_lt seat.client.seq (2 ^ 63) && has_room seat.client.pending
+
+abbrev pub can_give_up : Option ClientState → Bool
+can_give_up None = false
+can_give_up (Some seat) = not seat.quit && is_open seat.client.pending
+
+abbrev pub can_serve : Option ServerState → Bool
+can_serve None = false
+can_serve (Some server) = server.up && has_numbers server.node
+
+abbrev pub is_up : Option ServerState → Bool
+is_up None = false
+is_up (Some server) = server.up
+
+abbrev pub is_there : Option ServerState → Bool
+is_there None = false
+is_there (Some server) = true
+
+-- a message meets a server that is down
+abbrev pub misses : List ServerState → Option Msg → Bool
+misses servers (Some (Request to ask cursor)) = is_there (slice_get servers to) && not (is_up (slice_get servers to))
+misses servers (Some (Transfer to dir part depth bits sessions top rows)) = is_there (slice_get servers to) && not (is_up (slice_get servers to))
+misses servers (Some (Installed to dir part child)) = is_there (slice_get servers to) && not (is_up (slice_get servers to))
+misses servers msg = false
+
+-- a server that is down may keep none of the records in doubt, or all
+abbrev pub can_restart : Option ServerState → ℕ → Bool
+can_restart None kept = false
+can_restart (Some server) kept = not server.up && ((kept == 0) || (kept == length server.doubt))
+
+-- some client's bitmap of the directory has the partition
+abbrev pub is_known : List ClientState → ℕ → ℕ → Bool
+is_known clients dir part = list_any (λ seat. has (bits_in seat.client dir) part) clients
+
+-- the client of a number
+abbrev pub seat_at : List ClientState → ℕ → Option ClientState
+seat_at clients zero = None
+seat_at clients (suc k) = slice_get clients k
+
+abbrev pub can_stop : Option ServerState → StopCause → Bool
+can_stop server Asked = is_up server
+can_stop server Device = is_there server
+
+abbrev pub enabled : WorldV → Event → Bool
+enabled w (Issue client call) = can_issue (seat_at w.clients client) call
+enabled w (Resend client) = can_resend (seat_at w.clients client)
+enabled w (Serve server places how) = can_serve (slice_get w.servers server) && ((length places == 1) && list_all (λ k. is_for_server server (slice_get w.sent k)) places)
+enabled w (Miss place) = misses w.servers (slice_get w.sent place)
+enabled w (Take client place) = can_take (seat_at w.clients client) && is_for_client client (slice_get w.sent place)
+enabled w (Cached client call) = false
+enabled w (Hint client dir bits) = can_take (seat_at w.clients client) && list_all (is_known w.clients dir) (set.items bits)
+enabled w (Remind server) = is_up (slice_get w.servers server)
+enabled w (Stop server cause) = can_stop (slice_get w.servers server) cause
+enabled w (Restart server kept) = can_restart (slice_get w.servers server) kept
+enabled w (Tick by) = nat_lt (w.now + by) (2 ^ 43)
+enabled w (GiveUp client) = can_give_up (seat_at w.clients client)
+enabled w (Verdict client verdict) = true
+
+-- The world after an event
+
+abbrev pub set_server : WorldV → ℕ → ServerState → WorldV
+set_server w server state = record w { servers = slice_set w.servers server state }
+
+-- the place of a client among the clients
+abbrev pub index_of : ℕ → ℕ
+index_of zero = zero
+index_of (suc k) = k
+
+abbrev pub set_client : WorldV → ℕ → ClientState → WorldV
+set_client w client state = record w { clients = slice_set w.clients (index_of client) state }
+
+abbrev pub say : WorldV → List Msg → WorldV
+say w msgs = record w { sent = w.sent ++ msgs }
+
+abbrev pub with_client : ClientState → ClientV → ClientState
+with_client seat client = record { client = client; quit = seat.quit }
+
+abbrev pub after_issue : WorldV → ℕ → Call → Option ClientState → WorldV
+after_issue w client call None = w
+after_issue w client call (Some seat) = say (set_client w client (with_client seat (issued seat.client call))) (issue_msg seat.client call ∷ [])
+
+abbrev pub after_resend_of : WorldV → ℕ → ClientState → Option Pending → WorldV
+after_resend_of w client seat None = w
+after_resend_of w client seat (Some pending) = say (set_client w client (with_client seat (resent seat.client pending))) (resend_msg seat.client pending ∷ [])
+
+abbrev pub after_resend : WorldV → ℕ → Option ClientState → WorldV
+after_resend w client None = w
+after_resend w client (Some seat) = after_resend_of w client seat seat.client.pending
+
+-- the messages at some places
+abbrev pub onto_msgs : Option Msg → List Msg → List Msg
+onto_msgs None msgs = msgs
+onto_msgs (Some msg) msgs = msg ∷ msgs
+
+abbrev pub msgs_at : List Msg → List ℕ → List Msg
+msgs_at sent [] = []
+msgs_at sent (place ∷ places) = onto_msgs (slice_get sent place) (msgs_at sent places)
+
+-- a Serve that is done changes the store and sends its messages; one that stops leaves its records in doubt, and the
+-- server down
+abbrev pub after_serve_of : WorldV → ℕ → ServerState → ServedV → ServeEnd → WorldV
+after_serve_of w server state done ends.Done = say (set_server w server (with_store state done.store)) done.outputs
+after_serve_of w server state done ends.Stop = set_server w server (record { node = state.node; rows = state.rows; up = false; doubt = done.records })
+
+abbrev pub after_serve : WorldV → ℕ → List ℕ → ServeEnd → Option ServerState → WorldV
+after_serve w server places how None = w
+after_serve w server places how (Some state) = after_serve_of w server state (serve_all (store_of state) (msgs_at w.sent places) w.now) how
+
+abbrev pub after_take_of : WorldV → ℕ → ClientState → Option Msg → WorldV
+after_take_of w client seat None = w
+after_take_of w client seat (Some msg) = set_client w client (with_client seat (taking.take seat.client msg).client)
+
+abbrev pub after_take : WorldV → ℕ → Option Msg → Option ClientState → WorldV
+after_take w client msg None = w
+after_take w client msg (Some seat) = after_take_of w client seat msg
+
+abbrev pub after_hint : WorldV → ℕ → ℕ → Bits → Option ClientState → WorldV
+after_hint w client dir bits None = w
+after_hint w client dir bits (Some seat) = set_client w client (with_client seat (merged seat.client dir bits))
+
+abbrev pub after_stop : WorldV → ℕ → Option ServerState → WorldV
+after_stop w server None = w
+after_stop w server (Some state) = set_server w server (record { node = state.node; rows = state.rows; up = false; doubt = state.doubt })
+
+-- the first `kept` records in doubt are kept, the floors are set, and the server is up
+abbrev pub up_with : ServerState → StoreV → ServerState
+up_with state store = record { node = store.node; rows = store.rows; up = true; doubt = [] }
+
+abbrev pub after_restart : WorldV → ℕ → ℕ → Option ServerState → WorldV
+after_restart w server kept None = w
+after_restart w server kept (Some state) = set_server w server (up_with state (restarted (replayed_all (store_of state) (take kept state.doubt)) w.now))
+
+abbrev pub after_give_up : WorldV → ℕ → Option ClientState → WorldV
+after_give_up w client None = w
+after_give_up w client (Some seat) = set_client w client (record { client = seat.client; quit = true })
+
+abbrev pub step : WorldV → Event → WorldV
+step w (Issue client call) = after_issue w client call (seat_at w.clients client)
+step w (Resend client) = after_resend w client (seat_at w.clients client)
+step w (Serve server places how) = after_serve w server places how (slice_get w.servers server)
+step w (Miss place) = w
+step w (Take client place) = after_take w client (slice_get w.sent place) (seat_at w.clients client)
+step w (Cached client call) = w
+step w (Hint client dir bits) = after_hint w client dir bits (seat_at w.clients client)
+step w (Remind server) = w
+step w (Stop server cause) = after_stop w server (slice_get w.servers server)
+step w (Restart server kept) = after_restart w server kept (slice_get w.servers server)
+step w (Tick by) = record w { now = w.now + by }
+step w (GiveUp client) = after_give_up w client (seat_at w.clients client)
+step w (Verdict client verdict) = w
+
+-- Whole runs
+
+abbrev pub steps : WorldV → List Event → WorldV
+steps w [] = w
+steps w (event ∷ events) = steps (step w event) events
+
+abbrev pub all_enabled : WorldV → List Event → Bool
+all_enabled w [] = true
+all_enabled w (event ∷ events) = enabled w event && all_enabled (step w event) events

@@ -1,0 +1,5 @@
+pub mod Lists
+pub mod Worlds
+pub mod Events
+pub mod Histories
+pub mod Law

@@ -1,0 +1,12 @@
+//! The world of servers, clients and every message ever sent.
+#![tactic(auto)]
+
+mod event;
+mod law;
+mod state;
+mod world;
+
+pub use event::{Event, ServeEnd, StopCause};
+pub use law::laws_of_runs;
+pub use state::{ClientState, ServerState};
+pub use world::World;
