@@ -1,8 +1,8 @@
 -- Lines that were carried out, from the first on.
-use Rattle.std.proofs.Common.{◌≡◌, ◌∙◌, sym, ap, subst, refl, ℕ, ◌+◌, ◌-◌, ◌<◌, ◌≤◌, ◌^◌, List, [], ◌∷◌, ◌++◌, length, take, drop, arith, Option, Some, None, append_assoc, length-append, length-drop, nat_eq}
+use Rattle.std.proofs.Common.{◌≡◌, ◌∙◌, sym, ap, subst, refl, ℕ, ◌+◌, ◌≤◌, ◌^◌, List, [], ◌∷◌, ◌++◌, length, take, drop, arith, Option, Some, None, append_assoc, length-append, length-drop, nat_eq}
 use Rattle.std.specs.Prelude.{string_bytes}
 use Rattle.std.specs.Io.KnownBytes.{Consumes, Appends}
-use Rattle.std.specs.List.{AllByRecursion, IsDistinct, flat_map}
+use Rattle.std.specs.List.{AllByRecursion, IsDistinct}
 use Rattle.std.specs.FinMap as map
 use Rattle.std.proofs.lemmas.List.{append-nil, take-append-le, drop-append-le, drop-drop}
 use Rattle.std.proofs.lemmas.Grind.{flat_map-append}
@@ -11,19 +11,16 @@ use Rattle.mds_base.specs.Entries.{Entries}
 use Rattle.mds_base.specs.PlainRules.{PlainStep, after, Allows, given_by}
 use Rattle.mds_base.specs.History.{IsLegal, EachAllowed, given, map_after}
 use Rattle.mds_base.proofs.Histories.{leads_on, given-append, allowed_both}
-use Rattle.mds_out.specs.Fault.{Rose}
-use Rattle.mds_out.specs.Known.{OnKnown, OnTold}
-use Rattle.mds_out.specs.Stream.{TakesFront}
 use Rattle.mds_out.proofs.Streams.{front_grows}
-use Rattle.mds_cli.specs.Lines.{IsPart, lines_of, ended_lines}
-use Rattle.mds_cli.specs.Grammar.{SpellsFront, IsEntryOf, IsSpelled}
+use Rattle.mds_cli.specs.Lines.{IsPart}
+use Rattle.mds_cli.specs.Grammar.{SpellsFront, IsEntryOf}
 use Rattle.mds_cli.specs.Text.{answer_line, effect_line, answers_of, effects_of}
-use Rattle.mds_cli.specs.Streams.{Streams, Flows, IsQuiet, Ends, StopsReading, StopsWriting}
-use Rattle.mds_cli.specs.Turn.{CarriesLine, CarriesLast, CarriesNone, BeginsUnspelled, StopsBad}
-use Rattle.mds_cli.specs.Run.{WholeRun, FirstBad, TooManyLines, ReadsFront, SomeLines, BeginsBad, GoesOnSpelled, Begins, OnItsWay, CarriesAll, StopsQuietly, StopsByRead, StopsByWrite, TookFront}
+use Rattle.mds_cli.specs.Streams.{Streams, Flows}
+use Rattle.mds_cli.specs.Turn.{CarriesLine}
+use Rattle.mds_cli.specs.Run.{OnItsWay}
 use Rattle.mds_cli.specs.declared.session.Session.{Session}
-use Rattle.mds_cli.proofs.Reading.{flows_none, flows_failed, consumes_none}
-use Rattle.mds_cli.proofs.Scripts.{with_feeds, lines_front, ended_front, last_line, spells_more, spells_next, gives_none}
+use Rattle.mds_cli.proofs.Reading.{flows_none, consumes_none}
+use Rattle.mds_cli.proofs.Scripts.{with_feeds, spells_more, spells_next, gives_none}
 
 -- Streams
 

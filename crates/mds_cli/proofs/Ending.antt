@@ -1,5 +1,5 @@
 -- How carrying out lines ends.
-use Rattle.std.proofs.Common.{◌≡◌, ◌∙◌, sym, ap, subst, refl, ℕ, ◌+◌, ◌<◌, ◌≤◌, ◌^◌, List, [], ◌∷◌, ◌++◌, length, length-append, arith, Option, Some, None}
+use Rattle.std.proofs.Common.{◌≡◌, ◌∙◌, sym, ap, subst, refl, ℕ, ◌+◌, ◌≤◌, ◌^◌, List, [], ◌∷◌, ◌++◌, length-append, arith, Option, Some, None}
 use Rattle.std.specs.Prelude.{string_bytes}
 use Rattle.std.specs.Io.KnownBytes.{Consumes}
 use Rattle.std.specs.List.{AllByRecursion}
@@ -8,18 +8,18 @@ use Rattle.mds_base.specs.declared.entry.Entry.{Entry}
 use Rattle.mds_base.specs.Entries.{Entries}
 use Rattle.mds_out.specs.Fault.{Rose}
 use Rattle.mds_out.specs.Known.{OnKnown, OnTold}
-use Rattle.mds_cli.specs.Lines.{IsPart, lines_of, ended_lines}
+use Rattle.mds_cli.specs.Lines.{IsPart, lines_of}
 use Rattle.mds_cli.specs.Grammar.{SpellsFront}
-use Rattle.mds_cli.specs.Text.{answers_of, effects_of}
-use Rattle.mds_cli.specs.Streams.{Streams, Flows, IsQuiet, Ends, StopsReading, StopsWriting}
-use Rattle.mds_cli.specs.Turn.{CarriesLast, CarriesNone, BeginsUnspelled, BeginsSpelled, StopsBad, StopsFull, StopsTurn}
+use Rattle.mds_cli.specs.Text.{answers_of}
+use Rattle.mds_cli.specs.Streams.{Streams, Flows, Ends}
+use Rattle.mds_cli.specs.Turn.{CarriesLast, CarriesNone, BeginsUnspelled, BeginsSpelled, StopsTurn}
 use Rattle.mds_cli.specs.Run.{BeginsBad, GoesOnSpelled, Begins, OnItsWay, CarriesAll, StopsCarrying}
 use Rattle.mds_cli.specs.declared.session.Session.{Session}
 use Rattle.mds_cli.specs.declared.status.Status.{Status}
 use Rattle.mds_cli.specs.declared.status.Status.TheVariants.{Done, Usage, BadScript, ReadFault, WriteFault, Limit, OutOfMemory}
 use Rattle.mds_cli.proofs.Reading.{flows_failed}
 use Rattle.mds_cli.proofs.Scripts.{with_feeds, lines_front, ended_front, last_line, spells_more}
-use Rattle.mds_cli.proofs.Carrying.{Carried, Leads, legal, consumes_both, flows_through, entries_now, leads_now, flows_now, written_now, spelled_now}
+use Rattle.mds_cli.proofs.Carrying.{Carried, legal, consumes_both, flows_through, entries_now, leads_now, flows_now, written_now, spelled_now}
 
 -- the lines of all bytes, where these are the first ones and the last bytes
 whole : (a b c : Option (List ℕ)) (front last : List ℕ) (lines : List (List ℕ)) (entries : List Entry) → Consumes a b front → Consumes b c last → Ends b c → lines_of (front ++ last) ≡ lines → SpellsFront lines 1 entries [] → OnKnown a c (λ bytes left. SpellsFront (lines_of bytes) 1 entries [] × (left ≡ []))

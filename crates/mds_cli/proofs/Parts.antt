@@ -1,11 +1,10 @@
 -- Bytes that lack one, and what a first place of it splits them into.
-use Rattle.std.proofs.Common.{◌≡◌, ◌∙◌, sym, ap, subst, refl, ℕ, ◌+◌, ◌-◌, ◌<◌, ◌≤◌, zero, suc, List, [], ◌∷◌, ◌++◌, length, take, drop, get_or, Bool, true, false, not, arith, Option, Some, None, MatchOption, IsTrue, add-one, length-drop}
+use Rattle.std.proofs.Common.{◌≡◌, ◌∙◌, sym, ap, subst, refl, ℕ, ◌+◌, ◌<◌, zero, suc, List, [], ◌∷◌, ◌++◌, length, take, drop, get_or, Bool, true, false, not, arith, add-one}
 use Rattle.std.specs.Prelude.{◌==◌}
-use Rattle.std.specs.List.{list_all}
-use Rattle.std.proofs.lemmas.Bool.{true≢false, and_from, and_parts, eqb-true, eq-eqb}
+use Rattle.std.proofs.lemmas.Bool.{true≢false, and_from, and_parts, eq-eqb}
 use Rattle.std.proofs.lemmas.List.{take_all, take-append-drop}
 use Rattle.std.proofs.Math.Seq.{drop-cons}
-use Rattle.std.specs.Str.TwoWay.{Nowhere, NoneBefore}
+use Rattle.std.specs.Str.TwoWay.{Nowhere}
 use Rattle.memchr.specs.Find.{Passes, is_byte}
 use Rattle.mds_cli.specs.Lines.{Lacks}
 

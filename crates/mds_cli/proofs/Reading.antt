@@ -1,7 +1,7 @@
 -- Reading a line, part by part.
-use Rattle.std.proofs.Common.{◌≡◌, ◌∙◌, sym, ap, subst, refl, ℕ, ◌+◌, ◌-◌, ◌<◌, ◌≤◌, ◌^◌, List, [], ◌∷◌, ◌++◌, length, take, drop, arith, Option, Some, None, append_assoc, length-append, length-drop}
+use Rattle.std.proofs.Common.{◌≡◌, ◌∙◌, sym, ap, subst, refl, ℕ, ◌+◌, ◌-◌, ◌≤◌, ◌^◌, List, [], ◌∷◌, ◌++◌, length, take, arith, Option, Some, None, append_assoc, length-append, length-drop}
 use Rattle.std.specs.Io.KnownBytes.{Consumes, Appends, prepend_known}
-use Rattle.std.proofs.lemmas.List.{append-nil, take_all, drop_all, take_rest}
+use Rattle.std.proofs.lemmas.List.{append-nil, drop_all, take_rest}
 use Rattle.mds_out.specs.Fault.{Rose}
 use Rattle.mds_out.specs.Known.{OnTold}
 use Rattle.mds_out.specs.Stream.{TakesFront}

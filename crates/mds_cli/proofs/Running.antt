@@ -1,7 +1,7 @@
 -- From lines carried out to a run that has ended.
-use Rattle.std.proofs.Common.{◌≡◌, ◌∙◌, sym, ap, subst, refl, ℕ, ◌+◌, ◌-◌, ◌<◌, ◌≤◌, ◌^◌, List, [], ◌∷◌, ◌++◌, length, take, drop, Bool, true, false, cond, arith, Option, Some, None, append_assoc, inl, inr, codes}
-use Rattle.std.specs.Prelude.{◌==◌, ◌⊎◌}
-use Rattle.std.specs.Io.KnownBytes.{Consumes, Appends, Keeps, prepend_known}
+use Rattle.std.proofs.Common.{◌≡◌, ◌∙◌, sym, ap, subst, refl, ℕ, List, [], ◌∷◌, ◌++◌, length, take, Bool, true, false, cond, arith, Option, Some, None, append_assoc, inl, inr, codes}
+use Rattle.std.specs.Prelude.{◌==◌}
+use Rattle.std.specs.Io.KnownBytes.{Consumes, Appends, prepend_known}
 use Rattle.std.specs.FinMap as map
 use Rattle.std.proofs.lemmas.List.{append-nil, take-append-drop}
 use Rattle.mds_base.specs.declared.entry.Entry.{Entry}
@@ -14,11 +14,11 @@ use Rattle.mds_cli.specs.Lines.{lines_of, ended_lines, onto_first, onto_ended}
 use Rattle.mds_cli.specs.Grammar.{SpellsFront}
 use Rattle.mds_cli.specs.Text.{answers_of, effects_of, text_of}
 use Rattle.mds_cli.specs.Streams.{Streams, streams, Flows}
-use Rattle.mds_cli.specs.Turn.{StopsWith, StopsSame, StopsBroken}
-use Rattle.mds_cli.specs.Run.{WholeRun, FirstBad, TooManyLines, ReadsFront, SomeLines, BeginsBad, GoesOnSpelled, Begins, OnItsWay, CarriesAll, StopsQuietly, StopsByRead, StopsByWrite, StopsAtLimit, StopsCarrying, EndsRun, outside, Took, TookFront}
+use Rattle.mds_cli.specs.Turn.{StopsWith, StopsBroken}
+use Rattle.mds_cli.specs.Run.{BeginsBad, GoesOnSpelled, Begins, OnItsWay, CarriesAll, StopsCarrying, EndsRun, outside}
 use Rattle.mds_cli.specs.declared.status.Status.{Status}
 use Rattle.mds_cli.specs.declared.status.Status.TheVariants.{Done, Usage, BadScript, ReadFault, WriteFault, Limit, OutOfMemory}
-use Rattle.mds_cli.proofs.Reading.{appends_none, flows_flushed}
+use Rattle.mds_cli.proofs.Reading.{appends_none}
 use Rattle.mds_cli.proofs.Turning.{appends_both, front_then, front_longer}
 use Rattle.mds_cli.proofs.Carrying.{legal}
 use Rattle.mds_cli.proofs.Scripts.{spells_more}

@@ -1,8 +1,7 @@
 -- What a run's end says at each status.
-use Rattle.std.proofs.Common.{◌≡◌, ◌∙◌, sym, ap, subst, refl, ℕ, ◌+◌, ◌<◌, ◌≤◌, ◌^◌, suc, List, [], ◌∷◌, ◌++◌, length, arith, Option, Some, None}
+use Rattle.std.proofs.Common.{◌≡◌, ◌∙◌, ap, subst, ℕ, ◌+◌, ◌^◌, List, [], ◌∷◌, length, arith, Option, Some, None}
 use Rattle.std.specs.List.{AllByRecursion}
 use Rattle.mds_base.specs.declared.entry.Entry.{Entry}
-use Rattle.mds_out.specs.Fault.{Rose}
 use Rattle.mds_out.specs.Known.{OnTold}
 use Rattle.mds_cli.specs.Lines.{lines_of}
 use Rattle.mds_cli.specs.Grammar.{SpellsFront, IsSpelled}

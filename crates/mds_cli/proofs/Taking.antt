@@ -1,5 +1,5 @@
 -- Parts of lines out of a chunk, of which the bytes from `from` to `to` are held.
-use Rattle.std.proofs.Common.{◌≡◌, ◌∙◌, sym, ap, subst, refl, ℕ, ◌+◌, ◌-◌, ◌<◌, ◌≤◌, ◌^◌, min, suc, List, [], ◌∷◌, ◌++◌, length, take, drop, arith, Option, Some, None, add-one, length-append, length-drop, append_assoc}
+use Rattle.std.proofs.Common.{◌≡◌, ◌∙◌, sym, ap, subst, refl, ℕ, ◌+◌, ◌-◌, ◌<◌, ◌≤◌, ◌^◌, List, [], ◌∷◌, ◌++◌, length, take, drop, arith, Option, Some, None, length-append, length-drop, append_assoc}
 use Rattle.std.specs.Io.KnownBytes.{Consumes}
 use Rattle.std.proofs.lemmas.List.{take-append-drop, drop-take, drop-drop, length-take, take_all, drop_all}
 use Rattle.std.proofs.Math.Seq.{drop-append-add}

@@ -1,7 +1,7 @@
 -- One turn of a run: a line is read, and its call carried out.
-use Rattle.std.proofs.Common.{◌≡◌, ◌∙◌, sym, ap, subst, refl, ℕ, ◌+◌, ◌-◌, ◌<◌, ◌≤◌, ◌^◌, List, [], ◌∷◌, ◌++◌, length, take, drop, arith, Option, Some, None, Result, Ok, Err, IfErr, append_assoc, length-append}
+use Rattle.std.proofs.Common.{◌≡◌, ◌∙◌, sym, ap, subst, refl, ℕ, ◌+◌, ◌≤◌, List, [], ◌∷◌, ◌++◌, length, take, arith, Option, Some, None, Result, Ok, Err, IfErr, append_assoc, length-append}
 use Rattle.std.specs.Prelude.{IsErrAnd, string_bytes}
-use Rattle.std.specs.Io.KnownBytes.{Consumes, Appends, Keeps, prepend_known}
+use Rattle.std.specs.Io.KnownBytes.{Consumes, Appends, Keeps}
 use Rattle.std.proofs.lemmas.List.{append-nil, take-append-le, drop-append-le}
 use Rattle.mds_base.specs.PlainRules.{PlainStep}
 use Rattle.std.proofs.Math.Seq.{take-append-add, take-length}
@@ -10,13 +10,13 @@ use Rattle.mds_out.specs.Known.{OnTold}
 use Rattle.mds_cli.specs.Lines.{IsPart, lines_of}
 use Rattle.mds_cli.specs.Grammar.{IsSpelled}
 use Rattle.mds_cli.specs.Text.{answer_line, effect_line}
-use Rattle.mds_cli.specs.Streams.{Streams, streams, Flows, IsQuiet, Ends, ReadsEnded, ReadsLast, ReadsNone, BeginsLong, StopsLong, StopsLine}
-use Rattle.mds_cli.specs.Turn.{streams_of, CarriesCall, StopsCall, CarriesLine, CarriesLast, StopsBad, StopsTurn, BeginsUnspelled, BeginsSpelled, status_of}
+use Rattle.mds_cli.specs.Streams.{Streams, Flows, IsQuiet, Ends, BeginsLong, StopsLong, StopsLine}
+use Rattle.mds_cli.specs.Turn.{CarriesCall, StopsCall, CarriesLine, CarriesLast, StopsBad, StopsTurn, BeginsUnspelled, BeginsSpelled, status_of}
 use Rattle.mds_cli.specs.declared.line.Stop.{Stop}
 use Rattle.mds_cli.specs.declared.line.Stop.TheVariants as stops
 use Rattle.mds_cli.specs.declared.session.Session.{Session}
 use Rattle.mds_cli.specs.declared.status.Status.{Status}
-use Rattle.mds_cli.specs.declared.status.Status.TheVariants.{Done, Usage, BadScript, ReadFault, WriteFault, Limit, OutOfMemory}
+use Rattle.mds_cli.specs.declared.status.Status.TheVariants.{BadScript, Limit, OutOfMemory}
 use Rattle.mds_cli.proofs.Scripts.{lines_front, last_line, long_line}
 use Rattle.mds_cli.proofs.Words.{spelled_short}
 

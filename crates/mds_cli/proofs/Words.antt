@@ -1,12 +1,12 @@
 -- The words of a script's line.
-use Rattle.std.proofs.Common.{◌≡◌, ◌∙◌, sym, ap, subst, refl, ℕ, ◌+◌, ◌<◌, ◌≤◌, ◌^◌, ◌/◌, ◌%◌, suc, List, [], ◌∷◌, ◌++◌, length, take, drop, get_or, Bool, true, false, not, nat_le, arith, Option, Some, None, MatchOption, MatchResult, IsTrue, IsOk, Result, Ok, Err, Bor, append_assoc, length-append, codes, lit<, lit≤, nat_eq, mod-lt, cond}
+use Rattle.std.proofs.Common.{◌≡◌, ◌∙◌, sym, ap, subst, refl, ℕ, ◌+◌, ◌<◌, ◌≤◌, ◌^◌, ◌%◌, List, ◌∷◌, ◌++◌, length, take, drop, get_or, true, false, nat_le, arith, Option, Some, None, MatchOption, IsTrue, Result, Ok, Err, Bor, append_assoc, length-append, codes, lit<, lit≤, nat_eq}
 use Rattle.std.specs.Prelude.{decimal, ◌==◌}
 use Rattle.std.specs.List.{list_all}
 use Rattle.std.specs.Cmp.Lexicographic.{pointwise}
 use Rattle.std.proofs.lemmas.Slice.Eq.{bytes_eq-Decides}
 use Rattle.std.proofs.lemmas.Bool.{true≢false, and_from, and_parts, eqb-true, eq-eqb, leb-true}
 use Rattle.std.proofs.lemmas.List.{take-append-drop, append_cancel_left}
-use Rattle.std.proofs.lemmas.Fmt.{parse-decimal, IsAscii-decimal, decimal_by_steps, decimal_injective, length-decimal-le}
+use Rattle.std.proofs.lemmas.Fmt.{parse-decimal, IsAscii-decimal, decimal_by_steps, length-decimal-le}
 use Rattle.std.specs.Str.{IsUtf8, IsAscii}
 use Rattle.std.specs.Str.Parse.{ParsesUnsigned}
 use Rattle.std.proofs.lemmas.Str.{IsUtf8-from_ascii}
@@ -15,7 +15,7 @@ use Rattle.mds_base.specs.Name.{is_name}
 use Rattle.mds_base.specs.declared.call.Call.{Call}
 use Rattle.mds_base.specs.declared.call.Call.TheVariants as calls
 use Rattle.mds_cli.specs.Lines.{Lacks}
-use Rattle.mds_cli.specs.Grammar.{is_plain_byte, SpellsOn, Spells, IsSpelled}
+use Rattle.mds_cli.specs.Grammar.{is_plain_byte, Spells, IsSpelled}
 use Rattle.mds_cli.specs.declared.grammar.Verb.{Verb}
 use Rattle.mds_cli.specs.declared.grammar.Verb.TheVariants.{Create, Remove, Lookup}
 use Rattle.mds_cli.specs.Verb.{front_of, call_by}

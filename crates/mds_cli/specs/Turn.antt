@@ -1,7 +1,6 @@
 -- What one turn of a run does: it reads a line, carries out its call and makes the text of its answer.
 use Rattle.std.specs.Prelude.{◌≡◌, ℕ, ◌<◌, ◌≤◌, ◌^◌, List, [], ◌∷◌, ◌++◌, Option, length, string_bytes, ◌⊎◌}
 use Rattle.std.specs.Io.KnownBytes.{Consumes, Appends}
-use Rattle.mds_base.specs.Entries.{Entries}
 use Rattle.mds_base.specs.PlainRules.{PlainStep}
 use Rattle.mds_base.specs.declared.entry.Entry.{Entry}
 use Rattle.mds_base.specs.declared.setup.Which.{Which}
@@ -19,7 +18,7 @@ use Rattle.mds_cli.specs.declared.line.Line.TheVariants.{Ended, Last, None}
 use Rattle.mds_cli.specs.declared.line.Stop.{Stop}
 use Rattle.mds_cli.specs.declared.line.Stop.TheVariants as stops
 use Rattle.mds_cli.specs.declared.status.Status.{Status}
-use Rattle.mds_cli.specs.declared.status.Status.TheVariants.{Done, Usage, BadScript, ReadFault, WriteFault, Limit, OutOfMemory}
+use Rattle.mds_cli.specs.declared.status.Status.TheVariants.{BadScript, ReadFault, WriteFault, Limit, OutOfMemory}
 
 -- the streams of a session
 abbrev pub streams_of : Session → Option (List ℕ) → Option (List ℕ) → ℕ → ℕ → Streams

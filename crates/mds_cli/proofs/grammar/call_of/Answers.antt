@@ -1,7 +1,7 @@
 use Rattle.std.proofs.Common.{◌∙◌, sym, ap, ◌++◌, Err}
 use Rattle.std.proofs.lemmas.Bool.{true≢false}
 use Rattle.mds_cli.specs.Verb.{front_of}
-use Rattle.mds_cli.proofs.Words.{no_verb, no_directory, same_name}
+use Rattle.mds_cli.proofs.Words.{no_verb, same_name}
 use Rattle.mds_cli.proofs.grammar.call_of.Goals as goal
 
 pub returns-in_default : goal.returns-in_default

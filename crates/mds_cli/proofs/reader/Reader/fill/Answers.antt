@@ -1,4 +1,4 @@
-use Rattle.std.proofs.Common.{◌∙◌, ap, take, ◌++◌, drop, length}
+use Rattle.std.proofs.Common.{ap, take, ◌++◌, drop, length}
 use Rattle.mds_cli.proofs.Taking.{at_end}
 use Rattle.mds_cli.proofs.reader.Reader.fill.Goals as goal
 
