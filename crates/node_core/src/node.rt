@@ -1,4 +1,4 @@
-ghost use Rattle.std.specs.Prelude.{◌≡◌, ℕ, ◌+◌, ◌^◌, ◌<◌, ◌≤◌, OnOk, OnErr, IfOk, true, false, unwrap_or, MatchBool, ◌≢◌};
+ghost use Rattle.std.specs.Prelude.{◌≡◌, ℕ, ◌+◌, ◌==◌, ◌^◌, ◌<◌, ◌≤◌, OnOk, OnErr, IfOk, true, false, unwrap_or, MatchBool, ◌≢◌};
 ghost use Rattle.std.specs.FinMap as map;
 ghost use Rattle.sessions.specs.declared.kept.Judged.{Judged};
 ghost use Rattle.sessions.specs.Kept.{judge_kept};
@@ -7,7 +7,7 @@ ghost use Rattle.mds_base.specs.RowsCause.{HasRowsCause};
 ghost use Rattle.node_core.specs.Edits.{parts_noted, node_noted, numbers_of};
 ghost use Rattle.node_core.specs.Rules.{ChangeOf, LookOf, asked_of, found};
 ghost use Rattle.records.specs.declared.record.Record.{Record};
-ghost use Rattle.node_core.specs.Serving.{serve, serve_ask, IsServed, IsReplayed, may_carry, restarted};
+ghost use Rattle.node_core.specs.Serving.{serve, serve_ask, IsServed, IsReplayed, may_carry, restarted, is_head};
 ghost use Rattle.node_core.specs.Undoing.{before, before_in, undone};
 ghost use Rattle.node_core.specs.Ranges.{DirFits, RecordFits, dir_of};
 
@@ -223,9 +223,22 @@ impl Node {
                 call,
                 said,
             } => self.redo(alloc, rows, *client, *seq, *part, call, *said),
-            Record::Head { .. } => Ok(false),
+            Record::Head {
+                format,
+                servers,
+                server,
+                threshold,
+            } => Ok(self.heads(*format, *servers, *server, *threshold)),
             Record::Opened => Ok(false),
         }
+    }
+
+    fn heads(&self, format: u8, servers: u32, server: u32, threshold: u32) -> bool
+        ensures { result ≡ is_head self.now format servers server threshold }
+    {
+        (self.next == u64::from(self.server) * (1 << 40) + 2 && is_bare(&self.parts))
+            && ((format == 1 && servers == self.setup.servers)
+                && (server == self.server && threshold == self.setup.threshold))
     }
 
     fn redo<R: Rows>(
@@ -469,4 +482,10 @@ fn differs(a: Final, b: Final) -> bool
     ensures { MatchBool result (a ≢ b) (a ≡ b) }
 {
     a != b
+}
+
+fn is_bare(parts: &BTreeMap<(u64, u32), Part>) -> bool
+    ensures { result ≡ (map.len (map.from_entries {R = part_cmp} parts.now.entries) == 0) }
+{
+    parts.len() == 0
 }
