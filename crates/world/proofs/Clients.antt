@@ -18,7 +18,7 @@ use Rattle.client_core.specs.Taking.{closed}
 use Rattle.world.specs.declared.state.ClientState.{ClientState}
 use Rattle.world.specs.Lists.{Among}
 use Rattle.world.specs.Histories.{IssuedV, AnsweredV, Trace}
-use Rattle.world.proofs.Grow.{get_set, set_here, set_apart, among_more, among_last, among_map, each_push, each_map, each_set, once_push, once_same}
+use Rattle.world.proofs.Grow.{get_set, set_here, set_apart, among_more, among_last, among_map, each_push, each_map, each_set, once_push, once_same, pred_same}
 use Rattle.world.proofs.Choices.{nat_or_apart}
 use Rattle.world.proofs.Invariant.{Inv, Sizes, CallsKept, RequestTrue, IsAnsweredBy, AreKept, IsKeptPart, seq_in, seq_or}
 use Rattle.world.proofs.Steps.{with_seat, open_at, close_at, MayOpen, MayBump, MayMerge, MayClose}
@@ -134,9 +134,6 @@ pub merge_keeps : (t : Trace) → Inv t → (k : ℕ) (seat : ClientState) (dir 
 merge_keeps t inv k seat dir bits may =
     seat_keeps t inv k seat (record { client = merged seat.client dir bits; quit = seat.quit }) may.is refl (λ p e. (p, e, refl)) refl refl
     (merged_kept seat.client dir bits (inv.bits.bits_kept.at k seat may.is) may.kept)
-
-pred_same : {j k : ℕ} → suc j ≡ suc k → j ≡ k
-pred_same e = omega arith
 
 request_more : (count : ℕ) (issued more : List IssuedV) (m : Msg) → RequestTrue count issued m → RequestTrue count (issued ++ more) m
 request_more count issued more (Request to ask cursor) r = record { issue = among_more more r.issue; part = r.part; kept = r.kept; there = r.there }

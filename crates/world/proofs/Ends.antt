@@ -3,7 +3,7 @@ use Rattle.std.proofs.Common.{◌≡◌, ◌∙◌, sym, ap, subst, refl, ℕ, z
 use Rattle.std.specs.Prelude.{◌⊎◌, ◌||◌, slice_set}
 use Rattle.std.specs.List.{slice_get}
 use Rattle.std.proofs.lemmas.List.{append-nil}
-use Rattle.std.proofs.lemmas.Bool.Decides.{nat_tests}
+use Rattle.std.proofs.lemmas.Bool.{and_from, or_left, or_right, eq-eqb}
 use Rattle.records.specs.declared.record.Record.{Record}
 use Rattle.records.specs.declared.record.Record.TheVariants.{Head, Opened, Served}
 use Rattle.node_core.specs.Nodes.{StoreV}
@@ -102,29 +102,14 @@ pub record ClosedBy (t : Trace) (events' : List Event) : Type 0 where
   pub up : (j : ℕ) (x : ServerState) → slice_get (run t events').world.servers j ≡ Some x → x.up ≡ true
   pub grows : GrowsTo t.past (run t events').past
 
-both_true : (a b : Bool) → a ≡ true → b ≡ true → (a && b) ≡ true
-both_true true b e f = f
-both_true false b e f = e
-
-or_left : (a b : Bool) → a ≡ true → (a || b) ≡ true
-or_left true b e = refl
-or_left false b e = cc
-
-or_right : (a b : Bool) → b ≡ true → (a || b) ≡ true
-or_right true b e = refl
-or_right false b e = e
-
-self : (n : ℕ) → (n == n) ≡ true
-self n = grind (arith, nat_tests)
-
 count_of : (b : Bool) (n : ℕ) → ((cond b n 0 == 0) || (cond b n 0 == n)) ≡ true
-count_of true n = or_right (n == 0) (n == n) (self n)
-count_of false n = or_left (0 == 0) (0 == n) (self 0)
+count_of true n = or_right (n == 0) (n == n) (eq-eqb n n refl)
+count_of false n = or_left (0 == 0) (0 == n) (eq-eqb 0 0 refl)
 
 can : (keep : ℕ → Bool) (s : ℕ) (o : Option ServerState) (state : ServerState) → o ≡ Some state → state.up ≡ false → can_restart o (cond (keep s) (length state.doubt) 0) ≡ true
 can keep s o state is down =
     subst (λ x. can_restart x (cond (keep s) (length state.doubt) 0) ≡ true) (sym is)
-    (both_true (not state.up) _ (ap not down) (count_of (keep s) (length state.doubt)))
+    (and_from (not state.up) _ (ap not down) (count_of (keep s) (length state.doubt)))
 
 same_state : {x y : ServerState} → Some x ≡ Some y → x ≡ y
 same_state e = cc
@@ -156,7 +141,7 @@ closing_one keep state states s t here false down first second =
     let t' : Trace = happens t (Restart s kept) in
     let r : ClosedBy t' (closing keep states (s + 1)) = second t' (restart_sets t s kept state here) in
     record {
-      enabled = both_true (enabled t.world (Restart s kept)) (all_enabled t'.world (closing keep states (s + 1))) (can keep s (slice_get t.world.servers s) state here down) r.enabled;
+      enabled = and_from (enabled t.world (Restart s kept)) (all_enabled t'.world (closing keep states (s + 1))) (can keep s (slice_get t.world.servers s) state here down) r.enabled;
       up = r.up;
       grows = grows_on t.past t'.past (run t' (closing keep states (s + 1))).past (counted_grows t.past (past.after_restart t.past kept (slice_get t.world.servers s)) (restart_grows t.past kept (slice_get t.world.servers s))) r.grows;
     }

@@ -2,6 +2,7 @@
 use Rattle.std.proofs.Common.{◌≡◌, sym, ap, subst, refl, ℕ, zero, suc, Bool, true, false, cond, List, [], ◌∷◌, Some, inl, inr, arith, filter}
 use Rattle.std.specs.Prelude.{◌⊎◌, ◌||◌}
 use Rattle.std.specs.List.{slice_get, list_any}
+use Rattle.std.proofs.lemmas.Bool.{or_left, or_right}
 use Rattle.world.specs.Lists.{Among, OnceBy}
 
 pub record IsFrom {X : Type 0} (p : X → Bool) (xs : List X) (x : X) : Type 0 where
@@ -85,14 +86,6 @@ any_true p (x ∷ xs) e = elim (or_cases (p x) (list_any p xs) e) [
   | inl h ↦ record { place = 0; item = x; is = refl; good = h }
   | inr h ↦ let r = any_true p xs h in record { place = suc r.place; item = r.item; is = r.is; good = r.good }
 ]
-
-or_left : (a b : Bool) → a ≡ true → (a || b) ≡ true
-or_left true b e = refl
-or_left false b e = cc
-
-or_right : (a b : Bool) → b ≡ true → (a || b) ≡ true
-or_right true b e = refl
-or_right false b e = e
 
 pub any_from : {X : Type 0} (p : X → Bool) (xs : List X) (k : ℕ) (x : X) → slice_get xs k ≡ Some x → p x ≡ true → list_any p xs ≡ true
 any_from p [] k x e t = cc

@@ -80,7 +80,7 @@ set_apart (z ∷ xs) zero (suc j) y apart = refl
 set_apart (z ∷ xs) (suc k) zero y apart = refl
 set_apart (z ∷ xs) (suc k) (suc j) y apart = set_apart xs k j y (λ e. apart (ap suc e))
 
-pred_same : {j k : ℕ} → suc j ≡ suc k → j ≡ k
+pub pred_same : {j k : ℕ} → suc j ≡ suc k → j ≡ k
 pred_same e = omega arith
 
 not_zero : (k : ℕ) → suc k ≡ 0 → ⊥

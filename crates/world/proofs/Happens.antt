@@ -18,6 +18,7 @@ use Rattle.std.proofs.lemmas.Map.Lookups.{exact_unsigned}
 use Rattle.std.specs.declared.cmp.Ordering.{Ordering}
 use Rattle.std.specs.declared.cmp.Ordering.TheVariants.{Less, Equal, Greater}
 use Rattle.std.specs.Ordering.{is_eq}
+use Rattle.std.proofs.lemmas.Bool.{and_parts}
 use Rattle.node_core.specs.Nodes.{has_numbers}
 use Rattle.node_core.specs.Serving.{serve_all, replayed_all}
 use Rattle.client_core.specs.declared.client.Pending.{Pending}
@@ -47,10 +48,6 @@ use Rattle.world.proofs.Targets.{target_kept}
 use Rattle.world.proofs.Serves.{idle_keeps, request_keeps}
 use Rattle.world.proofs.Restarts.{restarted_at, restart_keeps}
 
-both : (a b : Bool) → (a && b) ≡ true → (a ≡ true) × (b ≡ true)
-both true b e = (refl, e)
-both false b e = cc
-
 is_not : (a : Bool) → not a ≡ true → a ≡ false
 is_not true e = cc
 is_not false e = refl
@@ -68,7 +65,7 @@ issue_keeps : (t : Trace) → Inv t → (k : ℕ) (call : Call) (o : Option Clie
     → Inv (record { world = events.after_issue t.world (suc k) call o; past = counted (past.after_issue t.past (suc k) call o) })
 issue_keeps t inv k call None is can = cc
 issue_keeps t inv k call (Some seat) is can =
-    let idle : seat.client.pending ≡ None = no_pending seat.client.pending (both (not seat.quit) (not (events.is_open seat.client.pending)) (both _ _ can).0).1 in
+    let idle : seat.client.pending ≡ None = no_pending seat.client.pending (and_parts (not seat.quit) (not (events.is_open seat.client.pending)) (and_parts _ _ can).0).1 in
     let t1 : Trace = open_at t k seat call in
     let inv1 : Inv t1 = open_keeps t inv k seat call (record { is = is; idle = idle }) in
     let sizes = inv.sizes.clients_are.at k seat is in
@@ -105,7 +102,7 @@ resend_keeps : (t : Trace) → Inv t → (k : ℕ) (o : Option ClientState) → 
     → Inv (record { world = events.after_resend t.world (suc k) o; past = counted t.past })
 resend_keeps t inv k None is can = cc
 resend_keeps t inv k (Some seat) is can =
-    resend_of t inv k seat is seat.client.pending refl (both (not seat.quit) (events.is_open seat.client.pending) (both _ _ can).0).1
+    resend_of t inv k seat is seat.client.pending refl (and_parts (not seat.quit) (events.is_open seat.client.pending) (and_parts _ _ can).0).1
 
 -- the run once a client took a message
 abbrev after_taking : Trace → ℕ → ClientState → ℕ → Msg → Option Pending → Trace
@@ -128,8 +125,8 @@ module _ (t : Trace) (inv : Inv t) (k : ℕ) (seat : ClientState) (is : slice_ge
       })
   answer_taken seq attempt reply msg false e = stays t inv k seat is
   answer_taken seq attempt reply msg true e =
-      let present = both (is_present seat.client pending seq attempt) (fits pending.call reply) e in
-      let same : seq ≡ seat.client.seq = same_number seq seat.client.seq (both (seq == seat.client.seq) (attempt == pending.attempt) present.0).0 in
+      let present = and_parts (is_present seat.client pending seq attempt) (fits pending.call reply) e in
+      let same : seq ≡ seat.client.seq = same_number seq seat.client.seq (and_parts (seq == seat.client.seq) (attempt == pending.attempt) present.0).0 in
       count_keeps (close_at t k seat pending reply place)
       (close_keeps t inv k seat pending attempt reply place (record { is = is; busy = busy; msg = msg ∙ ap (λ q. Some (Answer (suc k) q attempt reply)) same }))
 
@@ -186,8 +183,8 @@ take_keeps t inv k place (Some msg) (Some seat) at is can is_for = take_seat t i
 
 all_true : {X : Type 0} (p : X → Bool) (xs : List X) → list_all p xs ≡ true → (k : ℕ) (x : X) → slice_get xs k ≡ Some x → p x ≡ true
 all_true p [] e k x at = cc
-all_true p (z ∷ xs) e zero x at = let s : z ≡ x = cc in subst (λ y. p y ≡ true) s (both (p z) (list_all p xs) e).0
-all_true p (z ∷ xs) e (suc k) x at = all_true p xs (both (p z) (list_all p xs) e).1 k x at
+all_true p (z ∷ xs) e zero x at = let s : z ≡ x = cc in subst (λ y. p y ≡ true) s (and_parts (p z) (list_all p xs) e).0
+all_true p (z ∷ xs) e (suc k) x at = all_true p xs (and_parts (p z) (list_all p xs) e).1 k x at
 
 is_equal : (o : Ordering) → is_eq o ≡ true → o ≡ Equal
 is_equal Less e = cc
@@ -252,10 +249,10 @@ serve_keeps : (t : Trace) → Inv t → (s : ℕ) (places : List ℕ) (how : Ser
     → Inv (record { world = events.after_serve t.world s places how o; past = counted (past.after_serve t.past t.world places how o) })
 serve_keeps t inv s places how None is can each = cc
 serve_keeps t inv s [] how (Some state) is can each = cc
-serve_keeps t inv s (place ∷ other ∷ places) how (Some state) is can each = absurd (two_places (length places) (both (length (place ∷ other ∷ places) == 1) (list_all (λ k. is_for_server s (slice_get t.world.sent k)) (place ∷ other ∷ places)) each).0)
+serve_keeps t inv s (place ∷ other ∷ places) how (Some state) is can each = absurd (two_places (length places) (and_parts (length (place ∷ other ∷ places) == 1) (list_all (λ k. is_for_server s (slice_get t.world.sent k)) (place ∷ other ∷ places)) each).0)
 serve_keeps t inv s (place ∷ []) how (Some state) is can each =
-    let c = both state.up (has_numbers state.node) can in
-    let is_for : is_for_server s (slice_get t.world.sent place) ≡ true = (both (is_for_server s (slice_get t.world.sent place)) true (both (length (place ∷ []) == 1) (is_for_server s (slice_get t.world.sent place) && true) each).1).0 in
+    let c = and_parts state.up (has_numbers state.node) can in
+    let is_for : is_for_server s (slice_get t.world.sent place) ≡ true = (and_parts (is_for_server s (slice_get t.world.sent place)) true (and_parts (length (place ∷ []) == 1) (is_for_server s (slice_get t.world.sent place) && true) each).1).0 in
     serve_msg t inv s state is c.0 c.1 place how (slice_get t.world.sent place) refl is_for
 
 stop_keeps : (t : Trace) → Inv t → (s : ℕ) (o : Option ServerState) → slice_get t.world.servers s ≡ o → Inv (record { world = events.after_stop t.world s o; past = counted t.past })
@@ -288,7 +285,7 @@ restart_event : (t : Trace) → Inv t → (s kept : ℕ) (o : Option ServerState
     → Inv (record { world = events.after_restart t.world s kept o; past = counted (past.after_restart t.past kept o) })
 restart_event t inv s kept None is can = cc
 restart_event t inv s kept (Some state) is can =
-    let c = both (not state.up) ((kept == 0) || (kept == length state.doubt)) can in
+    let c = and_parts (not state.up) ((kept == 0) || (kept == length state.doubt)) can in
     restart_of t inv s kept state is (is_not state.up c.0) (or_cases (kept == 0) (kept == length state.doubt) c.1)
 
 -- Each enabled event keeps the invariant.
@@ -297,14 +294,14 @@ event_keeps t inv (Issue zero call) can = cc
 event_keeps t inv (Issue (suc k) call) can = issue_keeps t inv k call (slice_get t.world.clients k) refl can
 event_keeps t inv (Resend zero) can = cc
 event_keeps t inv (Resend (suc k)) can = resend_keeps t inv k (slice_get t.world.clients k) refl can
-event_keeps t inv (Serve s places how) can = let c = both _ _ can in serve_keeps t inv s places how (slice_get t.world.servers s) refl c.0 c.1
+event_keeps t inv (Serve s places how) can = let c = and_parts _ _ can in serve_keeps t inv s places how (slice_get t.world.servers s) refl c.0 c.1
 event_keeps t inv (Miss place) can = count_keeps t inv
 event_keeps t inv (Take zero place) can = cc
 event_keeps t inv (Take (suc k) place) can =
-    let c = both _ _ can in take_keeps t inv k place (slice_get t.world.sent place) (slice_get t.world.clients k) refl refl c.0 c.1
+    let c = and_parts _ _ can in take_keeps t inv k place (slice_get t.world.sent place) (slice_get t.world.clients k) refl refl c.0 c.1
 event_keeps t inv (Cached client call) can = cc
 event_keeps t inv (Hint zero dir bits) can = cc
-event_keeps t inv (Hint (suc k) dir bits) can = let c = both _ _ can in hint_keeps t inv k dir bits (slice_get t.world.clients k) refl c.0 c.1
+event_keeps t inv (Hint (suc k) dir bits) can = let c = and_parts _ _ can in hint_keeps t inv k dir bits (slice_get t.world.clients k) refl c.0 c.1
 event_keeps t inv (Remind s) can = count_keeps t inv
 event_keeps t inv (Stop s cause) can = stop_keeps t inv s (slice_get t.world.servers s) refl
 event_keeps t inv (Restart s kept) can = restart_event t inv s kept (slice_get t.world.servers s) refl can
@@ -316,4 +313,4 @@ event_keeps t inv (Verdict client verdict) can = count_keeps t inv
 -- and so do runs
 pub run_keeps : (events' : List Event) (t : Trace) → Inv t → events.all_enabled t.world events' ≡ true → Inv (run t events')
 run_keeps [] t inv can = inv
-run_keeps (event ∷ more) t inv can = let c = both _ _ can in run_keeps more (happens t event) (event_keeps t inv event c.0) c.1
+run_keeps (event ∷ more) t inv can = let c = and_parts _ _ can in run_keeps more (happens t event) (event_keeps t inv event c.0) c.1

@@ -1,6 +1,6 @@
 -- What an outcome of serving a request tells of the store, and that the record of a change may follow there.
 use Rattle.std.proofs.Common.{◌≡◌, ◌∙◌, sym, ap, refl, ℕ, ◌+◌, ◌==◌, ◌&&◌, Bool, true, false, cond, List, Some, arith}
-use Rattle.std.proofs.lemmas.Bool.Decides.{nat_tests}
+use Rattle.std.proofs.lemmas.Bool.{and_from, eqb-true, eq-eqb}
 use Rattle.mds_base.specs.declared.ask.Ask.{Ask}
 use Rattle.mds_base.specs.declared.call.Call.{Call}
 use Rattle.mds_base.specs.declared.reply.Final.{Final}
@@ -70,26 +70,16 @@ outcome_at store ask now NotServed e = tt
 pub outcome_true : (store : StoreV) (ask : Ask) (now : ℕ) → OutcomeTrue store ask now (outcome store ask now)
 outcome_true store ask now = outcome_at store ask now (asked_of ask.call) refl
 
-same_of : (a b : ℕ) → (a == b) ≡ true → a ≡ b
-same_of a b e = grind (arith, nat_tests)
-
-self_of : (a b : ℕ) → a ≡ b → (a == b) ≡ true
-self_of a b e = grind (arith, nat_tests)
-
-both_true : (a b : Bool) → a ≡ true → b ≡ true → (a && b) ≡ true
-both_true true b e f = f
-both_true false b e f = e
-
 same_final_self : (said : Final) → same_final said said ≡ true
-same_final_self said = both_true ((final_tag said).0 == (final_tag said).0) ((final_tag said).1 == (final_tag said).1) (self_of (final_tag said).0 (final_tag said).0 refl) (self_of (final_tag said).1 (final_tag said).1 refl)
+same_final_self said = and_from ((final_tag said).0 == (final_tag said).0) ((final_tag said).1 == (final_tag said).1) (eq-eqb (final_tag said).0 (final_tag said).0 refl) (eq-eqb (final_tag said).1 (final_tag said).1 refl)
 
 pub owner_of : (store : StoreV) (dir servers s : ℕ) → owns store.node dir 0 ≡ true → store.node.setup.servers ≡ servers → store.node.server ≡ s → server_for servers dir 0 ≡ s
 owner_of store dir servers s owner e f =
-    let h : server_for store.node.setup.servers dir 0 ≡ store.node.server = same_of (server_for store.node.setup.servers dir 0) store.node.server owner in
+    let h : server_for store.node.setup.servers dir 0 ≡ store.node.server = eqb-true (server_for store.node.setup.servers dir 0) store.node.server owner in
     sym (ap (λ n. server_for n dir 0) e) ∙ h ∙ f
 
 pub owns_of : (store : StoreV) (dir servers s : ℕ) → server_for servers dir 0 ≡ s → store.node.setup.servers ≡ servers → store.node.server ≡ s → owns store.node dir 0 ≡ true
-owns_of store dir servers s owner e f = self_of (server_for store.node.setup.servers dir 0) store.node.server (ap (λ n. server_for n dir 0) e ∙ owner ∙ sym f)
+owns_of store dir servers s owner e f = eq-eqb (server_for store.node.setup.servers dir 0) store.node.server (ap (λ n. server_for n dir 0) e ∙ owner ∙ sym f)
 
 -- a record whose change would be carried out may follow
 pub may_follow_true : (store : StoreV) (client seq part : ℕ) (call : Call) (said : Final) (dir : ℕ) (name : List ℕ) → asked_of call ≡ ChangeOf dir name → owns store.node dir 0 ≡ true
@@ -102,5 +92,5 @@ may_follow_true store client seq part call said dir name asked owner newer numbe
     ∙ ap (λ j. by_judged j (said_in store call dir name)) newer
     ∙ ap Carries (sym is_said) in
     let first : carries (outcome store (ask_of client seq call) 0) said ≡ true = ap (λ o. carries o said) carried ∙ same_final_self said in
-    let second : (part == part_at store (asked_of call)) ≡ true = self_of part (part_at store (asked_of call)) (is_part ∙ sym (ap (part_at store) asked)) in
-    both_true (has_numbers store.node) _ numbers (both_true _ _ first second)
+    let second : (part == part_at store (asked_of call)) ≡ true = eq-eqb part (part_at store (asked_of call)) (is_part ∙ sym (ap (part_at store) asked)) in
+    and_from (has_numbers store.node) _ numbers (and_from _ _ first second)
