@@ -5,3 +5,5 @@ pub mod Served
 pub mod Replayed
 pub mod ReplayLaw
 pub mod Undoes
+pub mod Planned
+pub mod Copies

@@ -4,6 +4,8 @@ use Rattle.std.specs.Prelude.{ℕ, ◌+◌, ◌*◌, ◌-◌, ◌^◌, ◌==◌,
 use Rattle.std.specs.declared.cmp.Ordering.{Ordering}
 use Rattle.std.specs.Ordering.{nat_cmp, ordering_then}
 use Rattle.std.specs.FinMap as map
+use Rattle.std.specs.FinSet as set
+use Rattle.bitmap.specs.Bits.{Bits}
 use Rattle.std.specs.Prelude.{map as list_map}
 use Rattle.mds_base.specs.declared.attr.Attr.{Attr}
 use Rattle.mds_base.specs.declared.call.Call.{Call}
@@ -68,8 +70,11 @@ is_new node = (node.next == first_number node.server) && (map.len node.parts == 
 abbrev pub cleared_part : PartKey × Part → PartKey × Part
 cleared_part entry = (entry.0, record { count = entry.1.count; sessions = map.empty })
 
+abbrev pub parts_cleared : map.FinMap part_cmp Part → map.FinMap part_cmp Part
+parts_cleared parts = map.from_entries (list_map cleared_part (map.entries parts))
+
 abbrev pub cleared : NodeV → NodeV
-cleared node = record { server = node.server; setup = node.setup; next = node.next; parts = map.from_entries (list_map cleared_part (map.entries node.parts)) }
+cleared node = record { server = node.server; setup = node.setup; next = node.next; parts = parts_cleared node.parts }
 
 abbrev pub part_in : NodeV → ℕ → ℕ → Part
 part_in node dir part = unwrap_or (map.get node.parts (dir, part)) new_part
@@ -85,6 +90,10 @@ server_for servers dir part = server_of dir part servers
 -- the partition that a node locates for a name of a directory: nothing splits, so each directory is its partition 0
 abbrev pub part_for : NodeV → ℕ → List ℕ → ℕ
 part_for node dir name = 0
+
+-- the partitions of a directory that a node knows: nothing splits, so there is partition 0 alone
+abbrev pub bits_in : NodeV → ℕ → Bits
+bits_in node dir = set.insert set.empty 0
 
 -- whether a partition lies on the node's server
 abbrev pub owns : NodeV → ℕ → ℕ → Bool
