@@ -181,7 +181,7 @@ take_keeps t inv k place None o at is can is_for = cc
 take_keeps t inv k place (Some msg) None at is can is_for = cc
 take_keeps t inv k place (Some msg) (Some seat) at is can is_for = take_seat t inv k seat is seat.client.pending refl place msg at is_for
 
-all_true : {X : Type 0} (p : X → Bool) (xs : List X) → list_all p xs ≡ true → (k : ℕ) (x : X) → slice_get xs k ≡ Some x → p x ≡ true
+pub all_true : {X : Type 0} (p : X → Bool) (xs : List X) → list_all p xs ≡ true → (k : ℕ) (x : X) → slice_get xs k ≡ Some x → p x ≡ true
 all_true p [] e k x at = cc
 all_true p (z ∷ xs) e zero x at = let s : z ≡ x = cc in subst (λ y. p y ≡ true) s (and_parts (p z) (list_all p xs) e).0
 all_true p (z ∷ xs) e (suc k) x at = all_true p xs (and_parts (p z) (list_all p xs) e).1 k x at

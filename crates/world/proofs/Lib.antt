@@ -21,3 +21,5 @@ pub mod Happens
 pub mod Starts
 pub mod Ends
 pub mod Theorem
+pub mod Known
+pub mod Within

@@ -1,6 +1,7 @@
 //! The world of servers, clients and every message ever sent.
 #![tactic(auto)]
 
+mod enabling;
 mod event;
 mod law;
 mod state;
