@@ -241,7 +241,7 @@ serve_msg t inv s state is up numbers place how (Some (Busy client seq attempt p
 serve_msg t inv s state is up numbers place how (Some (Held client seq attempt until)) at is_for = cc
 serve_msg t inv s state is up numbers place how None at is_for = cc
 
-two_places : (n : ℕ) → (suc (suc n) == 1) ≡ true → ⊥
+pub two_places : (n : ℕ) → (suc (suc n) == 1) ≡ true → ⊥
 two_places n e = let s : suc (suc n) ≡ 1 = same_number (suc (suc n)) 1 e in absurd (omega arith)
 
 serve_keeps : (t : Trace) → Inv t → (s : ℕ) (places : List ℕ) (how : ServeEnd) (o : Option ServerState) → slice_get t.world.servers s ≡ o → can_serve o ≡ true

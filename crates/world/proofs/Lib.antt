@@ -23,3 +23,5 @@ pub mod Ends
 pub mod Theorem
 pub mod Known
 pub mod Within
+pub mod Stepped
+pub mod Runs

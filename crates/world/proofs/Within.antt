@@ -1,10 +1,12 @@
 -- Events keep the ranges of a world's numbers.
-use Rattle.std.proofs.Common.{◌≡◌, ◌∙◌, sym, ap, subst, refl, ℕ, zero, suc, ◌+◌, ◌^◌, ◌<◌, ◌≤◌, ◌&&◌, Bool, true, false, cond, List, [], ◌∷◌, ◌++◌, length, Option, Some, None, inl, inr, arith, append_assoc}
+use Rattle.std.proofs.Common.{◌≡◌, ◌∙◌, sym, ap, subst, refl, ℕ, zero, suc, ◌+◌, ◌-◌, ◌^◌, ◌<◌, ◌≤◌, ◌&&◌, not, Bool, true, false, cond, List, [], ◌∷◌, ◌++◌, length, get_or, Option, Some, None, inl, inr, arith, append_assoc}
 use Rattle.std.specs.Prelude.{slice_set}
-use Rattle.std.specs.List.{slice_get}
+use Rattle.std.specs.Prelude.{map as list_map}
+use Rattle.std.specs.List.{slice_get, range_with_len}
 use Rattle.std.proofs.lemmas.Bool.{and_parts}
 use Rattle.std.proofs.lemmas.Bool.Decides.{nat_tests}
 use Rattle.std.proofs.lemmas.List.{append-nil}
+use Rattle.std.proofs.lemmas.List.FromFn.{map-range_with_len_more}
 use Rattle.mds_base.specs.declared.setup.Setup.{Setup}
 use Rattle.mds_base.specs.declared.ask.Ask.{Ask}
 use Rattle.mds_base.specs.declared.call.Call.{Call}
@@ -17,15 +19,18 @@ use Rattle.node_core.specs.Serving.{serve, served_as}
 use Rattle.node_core.specs.Ranges as node
 use Rattle.node_core.specs.Ranges.{DirFits, RecordFits}
 use Rattle.client_core.specs.declared.client.Pending.{Pending}
-use Rattle.client_core.specs.Clients.{ClientV, dir_of, issued, issue_msg, resent, resend_msg, merged}
+use Rattle.client_core.specs.Clients.{ClientV, dir_of, issued, issue_msg, resent, resend_msg, SendsAgain}
 use Rattle.client_core.specs.Taking.{take, take_at, answered_if, busy_if, held_if, redirected_if}
 use Rattle.client_core.specs.Taking as taking
 use Rattle.world.specs.declared.state.ServerState.{ServerState}
 use Rattle.world.specs.declared.state.ClientState.{ClientState}
 use Rattle.world.specs.Lists.{Each}
-use Rattle.world.specs.Ranges.{AreRanges, PendingFits}
-use Rattle.world.specs.Events.{is_dir, is_call}
+use Rattle.world.specs.Ranges.{IsSetup, AreRanges, PendingFits}
+use Rattle.world.specs.Worlds.{WorldV, store_of, new_server, new_seat}
+use Rattle.world.specs.Events.{is_dir, is_call, is_open, seat_at, is_for_server, can_issue, can_resend, can_take, can_serve}
 use Rattle.world.proofs.Grow.{each_push, each_set}
+use Rattle.world.proofs.Starts.{ranged}
+use Rattle.world.proofs.Stepped.{item_is, seat_place}
 
 -- Directories
 
@@ -135,6 +140,28 @@ take_fits_at client (Some pending) msg all fits = take_pending_fits client pendi
 pub take_fits : (client : ClientV) (msg : Msg) → PendingFits client.pending → PendingFits (take client msg).client.pending
 take_fits client msg fits = take_fits_at client client.pending msg fits fits
 
+-- The ranges of a new world
+
+-- one element more of a list by numbers
+pub one_more : {X : Type 0} (f : ℕ → X) (a n j : ℕ) → a + n ≡ j → (xs : List X) → xs ≡ list_map f (range_with_len a n) → (x : X) → x ≡ f j → (ys : List X) → ys ≡ xs ++ x ∷ [] → ys ≡ list_map f (range_with_len a (n + 1))
+one_more f a n j sum xs xs_are x x_is ys ys_are = let more = map-range_with_len_more f a n j sum in cc
+
+pub new_ranges : (setup : Setup) → IsSetup setup → (servers : List ServerState) (clients : List ClientState) → servers ≡ list_map (new_server setup) (range_with_len 0 setup.servers) → clients ≡ list_map (new_seat setup) (range_with_len 1 setup.clients)
+    → AreRanges setup 0 servers clients []
+new_ranges setup is servers clients servers_are clients_are = record {
+  setup' = is;
+  moment = omega arith;
+  doubts = record {
+    at = λ k state at.
+        subst (λ (x : ServerState). Each x.doubt (λ j item. RecordFits item)) (ranged (new_server setup) 0 setup.servers k state (ap (λ xs. slice_get xs k) (sym servers_are) ∙ at)) each_none;
+  };
+  calls = record {
+    at = λ k seat at.
+        subst (λ (x : ClientState). PendingFits x.client.pending) (ranged (new_seat setup) 1 setup.clients k seat (ap (λ xs. slice_get xs k) (sym clients_are) ∙ at)) tt;
+  };
+  requests = each_none;
+}
+
 -- The ranges of a world of which one part was changed
 
 module _ {setup : Setup} {now : ℕ} {servers : List ServerState} {clients : List ClientState} {sent : List Msg} (ranges : AreRanges setup now servers clients sent) where
@@ -152,3 +179,61 @@ module _ {setup : Setup} {now : ℕ} {servers : List ServerState} {clients : Lis
 
   pub with_moment : (later : ℕ) → later < 2 ^ 43 → AreRanges setup later servers clients sent
   with_moment later fits = record { setup' = ranges.setup'; moment = fits; doubts = ranges.doubts; calls = ranges.calls; requests = ranges.requests }
+
+-- What code reads is within its range, and so is what it writes
+
+issue_fits : (o : Option ClientState) (call : Call) → can_issue o call ≡ true → dir_of call < 2 ^ 48
+issue_fits None call can = cc
+issue_fits (Some seat) call can = call_fits call (and_parts _ (is_call call) (and_parts (not seat.quit && not (is_open seat.client.pending)) _ can).1).1
+
+sends_fit : (client new : ClientV) (msg : Msg) (p : Option Pending) → SendsAgain client new msg p → PendingFits p → PendingFits new.pending × DirFits msg
+sends_fit client new msg None sends fits = absurd sends
+sends_fit client new msg (Some pending) sends fits = (subst (λ (x : ClientV). PendingFits x.pending) (sym sends.1) fits, subst DirFits (sym sends.0) (request_fits pending.call fits))
+
+module _ (i w : WorldV) (same : i ≡ w) (ranges : AreRanges i.setup i.now i.servers i.clients i.sent) where
+  module _ (client : ℕ) (seat : ClientState) (read : seat ≡ get_or i.clients (client - 1) seat) where
+    seat_fits : (f : Option ClientState → Bool) → f None ≡ false → f (seat_at w.clients client) ≡ true → PendingFits seat.client.pending
+    seat_fits f none can =
+        ranges.calls.at (client - 1) seat (seat_place f none i.clients client (subst (λ (x : WorldV). f (seat_at x.clients client) ≡ true) (sym same) can) seat read)
+
+    pub issued_fits : (call call' : Call) → can_issue (seat_at w.clients client) call ≡ true → call' ≡ call → (new : ClientV) → new ≡ issued seat.client call' → PendingFits new.pending
+    issued_fits call call' can call_is new new_is =
+        subst (λ (x : ClientV). PendingFits x.pending) (sym new_is) (subst (λ x. dir_of x < 2 ^ 48) (sym call_is) (issue_fits (seat_at w.clients client) call can))
+
+    pub issued_ranges : (call call' : Call) → can_issue (seat_at w.clients client) call ≡ true → call' ≡ call → (new : ClientV) → new ≡ issued seat.client call' → (msg : Msg) → msg ≡ issue_msg seat.client call' → (sent : List Msg) → sent ≡ i.sent ++ msg ∷ []
+        → AreRanges i.setup i.now i.servers (slice_set i.clients (client - 1) (record { client = new; quit = seat.quit })) sent
+    issued_ranges call call' can call_is new new_is msg msg_is sent sent_is =
+        let fits : dir_of call' < 2 ^ 48 = subst (λ x. dir_of x < 2 ^ 48) (sym call_is) (issue_fits (seat_at w.clients client) call can) in
+        subst (λ xs. AreRanges i.setup i.now i.servers (slice_set i.clients (client - 1) (record { client = new; quit = seat.quit })) xs) (sym sent_is)
+        (with_msg (with_seat ranges (client - 1) (record { client = new; quit = seat.quit }) (issued_fits call call' can call_is new new_is)) msg
+        (subst DirFits (sym msg_is) (request_fits call' fits)))
+
+    pub resent_fits : can_resend (seat_at w.clients client) ≡ true → (new : ClientV) (msg : Msg) → SendsAgain seat.client new msg seat.client.pending → PendingFits new.pending
+    resent_fits can new msg sends = (sends_fit seat.client new msg seat.client.pending sends (seat_fits can_resend refl can)).0
+
+    pub resent_ranges : can_resend (seat_at w.clients client) ≡ true → (new : ClientV) (msg : Msg) → SendsAgain seat.client new msg seat.client.pending → (sent : List Msg) → sent ≡ i.sent ++ msg ∷ []
+        → AreRanges i.setup i.now i.servers (slice_set i.clients (client - 1) (record { client = new; quit = seat.quit })) sent
+    resent_ranges can new msg sends sent sent_is =
+        let fits = sends_fit seat.client new msg seat.client.pending sends (seat_fits can_resend refl can) in
+        subst (λ xs. AreRanges i.setup i.now i.servers (slice_set i.clients (client - 1) (record { client = new; quit = seat.quit })) xs) (sym sent_is)
+        (with_msg (with_seat ranges (client - 1) (record { client = new; quit = seat.quit }) fits.0) msg fits.1)
+
+    pub taken_fits : can_take (seat_at w.clients client) ≡ true → (msg : Msg) (new : ClientV) → new ≡ (take seat.client msg).client → PendingFits new.pending
+    taken_fits can msg new new_is = subst (λ (x : ClientV). PendingFits x.pending) (sym new_is) (take_fits seat.client msg (seat_fits can_take refl can))
+
+  module _ (server : ℕ) (state : ServerState) (read : state ≡ get_or i.servers server state) (can : can_serve (slice_get w.servers server) ≡ true) where
+    state_fits : Each state.doubt (λ k item. RecordFits item)
+    state_fits = ranges.doubts.at server state (item_is can_serve refl i.servers server (subst (λ (x : WorldV). can_serve (slice_get x.servers server) ≡ true) (sym same) can) state read)
+
+    pub done_ranges : (new : ServerState) → new.doubt ≡ state.doubt → (msg : Msg) (outputs all : List Msg) → outputs ≡ (serve (store_of state) msg i.now).outputs → all ≡ i.sent ++ outputs
+        → AreRanges i.setup i.now (slice_set i.servers server new) i.clients all
+    done_ranges new doubt msg outputs all outputs_are all_is =
+        subst (λ xs. AreRanges i.setup i.now (slice_set i.servers server new) i.clients xs) (sym (all_is ∙ ap (λ o. i.sent ++ o) outputs_are))
+        (with_msgs (with_server ranges server new (subst (λ d. Each d (λ k item. RecordFits item)) (sym doubt) state_fits)) (serve (store_of state) msg i.now).outputs (outputs_fit (store_of state) msg i.now))
+
+    pub stopped_ranges : (place : ℕ) (msg : Msg) (sent : List Msg) → is_for_server server (slice_get w.sent place) ≡ true → sent ≡ w.sent → msg ≡ get_or sent place msg
+        → (new : ServerState) → new ≡ record { node = state.node; rows = state.rows; up = false; doubt = (serve (store_of state) msg i.now).records } → AreRanges i.setup i.now (slice_set i.servers server new) i.clients i.sent
+    stopped_ranges place msg sent is_for sent_is msg_read new new_is =
+        let at : slice_get w.sent place ≡ Some msg = item_is (is_for_server server) refl w.sent place is_for msg (msg_read ∙ ap (λ xs. get_or xs place msg) sent_is) in
+        let fits : DirFits msg = ranges.requests.at place msg (ap (λ (x : WorldV). slice_get x.sent place) same ∙ at) in
+        with_server ranges server new (subst (λ (x : ServerState). Each x.doubt (λ k item. RecordFits item)) (sym new_is) (records_fit (store_of state) msg i.now fits))

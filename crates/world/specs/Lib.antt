@@ -4,3 +4,4 @@ pub mod Ranges
 pub mod Events
 pub mod Histories
 pub mod Law
+pub mod Runs

@@ -1,4 +1,4 @@
-ghost use Rattle.std.specs.Prelude.{◌≡◌, ◌<◌};
+ghost use Rattle.std.specs.Prelude.{◌≡◌, ◌&&◌, not};
 ghost use Rattle.std.specs.Option.{option_copied};
 ghost use Rattle.std.specs.List.{slice_get};
 ghost use Rattle.world.specs.Events.{is_dir, is_call, is_for_server, is_for_client, can_issue, can_resend, can_take, can_give_up, can_serve, is_up, is_there, misses, can_restart, can_stop, is_known, seat_at, serves_at, are_known};
@@ -17,6 +17,13 @@ pub fn seat_at(clients: &[ClientState], client: u32) -> Option<&ClientState>
         return None;
     }
     clients.get(client as usize - 1)
+}
+
+/// The message at a place.
+pub fn msg_at(sent: &[Msg], place: u64) -> Option<&Msg>
+    ensures { option_copied result ≡ slice_get sent.now place }
+{
+    sent.get(place as usize)
 }
 
 /// Whether a client may number a call and send it.
@@ -131,7 +138,7 @@ pub fn serves_at(sent: &[Msg], server: u32, places: &PlaceList) -> bool
     ensures { result ≡ serves_at sent.now server places.now }
 {
     match places.places() {
-        [place] => is_for_server(server, sent.get(*place as usize)),
+        [place] => is_for_server(server, msg_at(sent, *place)),
         _ => false,
     }
 }
@@ -185,6 +192,8 @@ fn is_down(state: Option<&ServerState>) -> bool
 pub fn are_known(clients: &[ClientState], dir: u64, bitmap: &Bitmap) -> bool
     ensures { result ≡ are_known clients.now dir bitmap.now }
 {
+    // A bitmap has no partition from 2 ^ RADIX on, as `has` says.
+    let _whole = bitmap.has(0);
     for part in 0..1 << RADIX {
         if bitmap.has(part) && !is_known(clients, dir, part) {
             return false;

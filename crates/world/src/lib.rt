@@ -4,10 +4,12 @@
 mod enabling;
 mod event;
 mod law;
+mod running;
 mod state;
 mod world;
 
 pub use event::{Event, ServeEnd, StopCause};
 pub use law::laws_of_runs;
+pub use running::{Ran, run};
 pub use state::{ClientState, ServerState};
 pub use world::World;

@@ -62,6 +62,29 @@ impl ServerState {
         }
     }
 
+    /// Works out what serving a message does, and stops before it is made: the records are in doubt. Where there is no
+    /// memory for it nothing changes.
+    pub(crate) fn stop_serving(
+        &mut self,
+        alloc: Global,
+        msg: &Msg,
+        now: u64,
+    ) -> Result<(), AllocError>
+        requires fits { DirFits msg.now }
+        requires moment { now < 2 ^ 43 }
+        ensures ok { OnOk result (self.new ≡ record { node = self.old.node; rows = self.old.rows; up = false; doubt = (serve (store_of self.old) msg.now now).records }) }
+        ensures err { OnErr result (self.new ≡ self.old) }
+    {
+        match self.node.plan(alloc, &mut self.rows, msg, now) {
+            Ok(plan) => {
+                self.up = false;
+                self.doubt = plan.handled.records;
+                Ok(())
+            }
+            Err(_) => Err(AllocError),
+        }
+    }
+
     /// Comes up again with the first `kept` of its records in doubt.
     pub(crate) fn restart(&mut self, alloc: Global, kept: u32, now: u64) -> Result<(), AllocError>
         requires kept { kept ≤ length self.old.doubt }

@@ -1,12 +1,12 @@
-ghost use Rattle.std.specs.Prelude.{◌≡◌, ◌+◌, ◌^◌, ◌<◌, true, IfOk, OnOk, map};
+ghost use Rattle.std.specs.Prelude.{◌≡◌, ◌+◌, ◌^◌, ◌<◌, ◌∷◌, [], true, IfOk, OnOk, map};
 ghost use Rattle.std.specs.List.{range_with_len, slice_get};
 ghost use Rattle.world.specs.Worlds.{new_world, new_server, new_seat};
 ghost use Rattle.world.specs.Ranges.{IsSetup};
-ghost use Rattle.world.specs.Events.{enabled, step, seat_at, can_issue, can_resend, can_take, can_give_up, can_serve, can_restart, is_there, is_for_client, serves_at, after_issue, after_resend, after_take, after_hint, after_give_up, after_serve, after_stop, after_restart};
+ghost use Rattle.world.specs.Events.{enabled, step, seat_at, can_issue, can_resend, can_take, can_give_up, can_serve, can_restart, is_there, is_for_client, is_for_server, serves_at, after_issue, after_resend, after_take, after_hint, after_give_up, after_serve, after_stop, after_restart};
 
 use crate::enabling::{
     are_known, can_give_up, can_issue, can_resend, can_restart, can_serve, can_stop, can_take,
-    is_for_client, is_up, misses, seat_at, serves_at,
+    is_for_client, is_up, misses, msg_at, seat_at, serves_at,
 };
 use crate::event::{Event, ServeEnd};
 use crate::state::{ClientState, ServerState};
@@ -20,7 +20,7 @@ use std::marker::Model;
 #[derive(Debug, Drop)]
 pub struct World {
     setup: Setup,
-    now: u64,
+    moment: u64,
     servers: Vec<ServerState>,
     clients: Vec<ClientState>,
     sent: MsgList,
@@ -37,9 +37,9 @@ impl Model for World {
 
     ghost coded = { Prim.hlevel (codes, map.code, set.code) };
 
-    ghost view = { λ a. record { setup = a.setup; now = a.now; servers = a.servers.items; clients = a.clients.items; sent = a.sent } };
+    ghost view = { λ a. record { setup = a.setup; now = a.moment; servers = a.servers.items; clients = a.clients.items; sent = a.sent } };
 
-    ghost invariant = { λ a. AreRanges a.setup a.now a.servers.items a.clients.items a.sent };
+    ghost invariant = { λ a. AreRanges a.setup a.moment a.servers.items a.clients.items a.sent };
 }
 
 impl World {
@@ -50,7 +50,7 @@ impl World {
     {
         Ok(World {
             setup,
-            now: 0,
+            moment: 0,
             servers: new_servers(alloc, setup)?,
             clients: new_seats(alloc, setup)?,
             sent: MsgList::new(alloc),
@@ -74,11 +74,11 @@ impl World {
                     && serves_at(self.sent.messages(), *server, places)
             }
             Event::Miss { place } => {
-                misses(&self.servers, self.sent.messages().get(*place as usize))
+                misses(&self.servers, msg_at(self.sent.messages(), *place))
             }
             Event::Take { client, place } => {
                 can_take(seat_at(&self.clients, *client))
-                    && is_for_client(*client, self.sent.messages().get(*place as usize))
+                    && is_for_client(*client, msg_at(self.sent.messages(), *place))
             }
             Event::Cached { .. } => false,
             Event::Hint {
@@ -142,7 +142,7 @@ impl World {
     fn can_tick(&self, by: u64) -> bool
         ensures { result ≡ enabled self.now (Event.Tick by) }
     {
-        by < (1 << 43) - self.now
+        by < (1 << 43) - self.moment
     }
 
     fn issue(&mut self, alloc: Global, client: u32, call: &Call) -> Result<(), AllocError>
@@ -204,15 +204,33 @@ impl World {
         ensures { OnOk result (self.new ≡ after_serve self.old server places.now how (slice_get self.old.servers server)) }
     {
         let place = places.places()[0];
+        match how {
+            ServeEnd::Done => self.serve_done(alloc, server, place),
+            ServeEnd::Stop => self.serve_stopped(alloc, server, place),
+        }
+    }
+
+    fn serve_done(&mut self, alloc: Global, server: u32, place: u64) -> Result<(), AllocError>
+        requires can { can_serve (slice_get self.old.servers server) ≡ true }
+        requires is_for { is_for_server server (slice_get self.old.sent place) ≡ true }
+        ensures { OnOk result (self.new ≡ after_serve self.old server (place ∷ []) ServeEnd.Done (slice_get self.old.servers server)) }
+    {
         let msg = &self.sent.messages()[place as usize];
         let state = &mut self.servers[server as usize];
-        match how {
-            ServeEnd::Done => {
-                let mut outputs = state.serve(alloc, msg, self.now)?;
-                self.sent.append(&mut outputs)
-            }
-            ServeEnd::Stop => Err(AllocError),
-        }
+        let mut outputs = state.serve(alloc, msg, self.moment)?;
+        self.sent.append(&mut outputs)?;
+        Ok(())
+    }
+
+    fn serve_stopped(&mut self, alloc: Global, server: u32, place: u64) -> Result<(), AllocError>
+        requires can { can_serve (slice_get self.old.servers server) ≡ true }
+        requires is_for { is_for_server server (slice_get self.old.sent place) ≡ true }
+        ensures { OnOk result (self.new ≡ after_serve self.old server (place ∷ []) ServeEnd.Stop (slice_get self.old.servers server)) }
+    {
+        let msg = &self.sent.messages()[place as usize];
+        let state = &mut self.servers[server as usize];
+        state.stop_serving(alloc, msg, self.moment)?;
+        Ok(())
     }
 
     fn stop(&mut self, server: u32)
@@ -226,14 +244,14 @@ impl World {
         requires { can_restart (slice_get self.old.servers server) kept ≡ true }
         ensures { OnOk result (self.new ≡ after_restart self.old server kept (slice_get self.old.servers server)) }
     {
-        self.servers[server as usize].restart(alloc, kept, self.now)
+        self.servers[server as usize].restart(alloc, kept, self.moment)
     }
 
     fn tick(&mut self, by: u64)
         requires { self.old.now + by < 2 ^ 43 }
         ensures { self.new ≡ step self.old (Event.Tick by) }
     {
-        self.now += by;
+        self.moment += by;
     }
 }
 

@@ -1,0 +1,5 @@
+use Rattle.world.proofs.Within.{new_ranges}
+use Rattle.world.proofs.world.World.new.Goals as goal
+
+pub invariant_of-result : goal.invariant_of-result
+invariant_of-result c = new_ranges c.args.setup c.requires c.in_ok-new_servers.field-0.items c.in_ok-new_seats.field-0.items c.in_ok-new_servers.ensures c.in_ok-new_seats.ensures
