@@ -6,6 +6,8 @@ mod event;
 mod law;
 mod running;
 mod state;
+#[cfg(test)]
+mod tests;
 mod world;
 
 pub use event::{Event, ServeEnd, StopCause};

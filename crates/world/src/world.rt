@@ -2,6 +2,7 @@ ghost use Rattle.std.specs.Prelude.{◌≡◌, ◌+◌, ◌^◌, ◌<◌, ◌∷
 ghost use Rattle.std.specs.List.{range_with_len, slice_get};
 ghost use Rattle.world.specs.Worlds.{new_world, new_server, new_seat};
 ghost use Rattle.world.specs.Ranges.{IsSetup};
+ghost use Rattle.world.specs.Runs.{LeadsOn};
 ghost use Rattle.world.specs.Events.{enabled, step, seat_at, can_issue, can_resend, can_take, can_give_up, can_serve, can_restart, is_there, is_for_client, is_for_server, serves_at, after_issue, after_resend, after_take, after_hint, after_give_up, after_serve, after_stop, after_restart};
 
 use crate::enabling::{
@@ -12,7 +13,7 @@ use crate::event::{Event, ServeEnd};
 use crate::state::{ClientState, ServerState};
 use bitmap::Bitmap;
 use mds_base::{Call, PlaceList, Setup};
-use records::MsgList;
+use records::{Msg, MsgList};
 use std::alloc::{AllocError, Global};
 use std::marker::Model;
 
@@ -55,6 +56,42 @@ impl World {
             clients: new_seats(alloc, setup)?,
             sent: MsgList::new(alloc),
         })
+    }
+
+    /// What the world was started with.
+    pub fn setup(&self) -> Setup
+        ensures value { result ≡ self.now.setup }
+        ensures is_setup { IsSetup self.now.setup }
+    {
+        self.setup
+    }
+
+    /// The moment.
+    pub fn now(&self) -> u64
+        ensures { result ≡ self.now.now }
+    {
+        self.moment
+    }
+
+    /// The servers, by their numbers.
+    pub fn servers(&self) -> &[ServerState]
+        ensures { result.now ≡ self.now.servers }
+    {
+        self.servers.as_slice()
+    }
+
+    /// The clients, by their numbers less 1.
+    pub fn clients(&self) -> &[ClientState]
+        ensures { result.now ≡ self.now.clients }
+    {
+        self.clients.as_slice()
+    }
+
+    /// All messages that were ever sent, in the order in which they were sent.
+    pub fn sent(&self) -> &[Msg]
+        ensures { result.now ≡ self.now.sent }
+    {
+        self.sent.messages()
     }
 
     /// Whether an event may happen now (`docs/DEFINITIONS.md`, "Events"), in time by what the event names; a Hint looks
@@ -104,6 +141,17 @@ impl World {
     pub fn step(&mut self, alloc: Global, event: &Event) -> Result<(), AllocError>
         requires { enabled self.old event.now ≡ true }
         ensures ok { OnOk result (self.new ≡ step self.old event.now) }
+
+        // The law of runs (`docs/PROMISES.md`, "Every run is explained"), of each run that led here, with this event.
+        ensures law { OnOk result (LeadsOn self.old event.now self.new) }
+    {
+        let _setup = self.setup();
+        self.carry_out(alloc, event)
+    }
+
+    fn carry_out(&mut self, alloc: Global, event: &Event) -> Result<(), AllocError>
+        requires { enabled self.old event.now ≡ true }
+        ensures { OnOk result (self.new ≡ step self.old event.now) }
     {
         match event {
             Event::Issue { client, call } => self.issue(alloc, *client, call),
