@@ -1,4 +1,7 @@
-use crate::{Event, Ran, ServeEnd, StopCause, World, laws_of_runs, run};
+ghost use Rattle.std.specs.Prelude.{◌<◌};
+
+use crate::{Event, Ran, ServeEnd, ServerState, StopCause, World, laws_of_runs, run};
+use bitmap::Bitmap;
 use mds_base::{Attr, Call, Final, Name, PlaceList, Reply, Setup};
 use records::{Msg, Record};
 use std::alloc::Global;
@@ -84,7 +87,7 @@ fn event(alloc: Global, dice: &mut Dice, world: &World) -> Result<Event, Fail> {
     let client = 1 + dice.below(2) as u32;
     let server = dice.below(2) as u32;
     let place = dice.place(world.sent());
-    Ok(match dice.below(24) {
+    Ok(match dice.below(26) {
         0..=5 => Event::Issue {
             client,
             call: dice.call(alloc)?,
@@ -116,6 +119,18 @@ fn event(alloc: Global, dice: &mut Dice, world: &World) -> Result<Event, Fail> {
             kept: dice.below(2) as u32,
         },
         22 => Event::Miss { place },
+        23 => Event::Hint {
+            client,
+            dir: 1 + dice.below(3),
+            bitmap: Bitmap::zero(),
+        },
+        24 => {
+            if dice.below(10) == 0 {
+                Event::GiveUp { client }
+            } else {
+                Event::Remind { server }
+            }
+        }
         _ => Event::Tick {
             by: dice.below(100),
         },
@@ -180,6 +195,31 @@ impl Plain {
         assert_eq!(rt; said, reply);
         self.rows[place] = row;
         self.changes.push(Change { client, seq, said })?;
+        Ok(())
+    }
+
+    /// The records in doubt of a server take effect.
+    fn kept(
+        &mut self,
+        rt: &impl Abort,
+        servers: &[ServerState],
+        server: u32,
+    ) -> Result<(), Fail> {
+        let Some(state) = servers.get(server as usize) else {
+            return Ok(());
+        };
+        for item in state.doubt.records() {
+            if let Record::Served {
+                client,
+                seq,
+                call,
+                said,
+                ..
+            } = item
+            {
+                self.change(rt, *client, *seq, call, *said)?;
+            }
+        }
         Ok(())
     }
 
@@ -326,20 +366,10 @@ fn happen(
     if !world.enabled(event) {
         return Ok(());
     }
+    // A restart keeps none of the records in doubt, or all.
     if let Event::Restart { server, kept } = event {
-        if let Some(state) = world.servers().get(*server as usize) {
-            for item in &state.doubt.records()[..*kept as usize] {
-                if let Record::Served {
-                    client,
-                    seq,
-                    call,
-                    said,
-                    ..
-                } = item
-                {
-                    plain.change(rt, *client, *seq, call, *said)?;
-                }
-            }
+        if *kept > 0 {
+            plain.kept(rt, world.servers(), *server)?;
         }
     }
     let first = world.sent().len();
@@ -384,5 +414,52 @@ fn random_schedules_are_explained(rt: HostRuntime) -> Result<(), Fail> {
     // Most schedules have several effects.
     assert!(rt; changes > 2 * SCHEDULES, "{changes}");
     assert!(rt; answered > 2 * SCHEDULES, "{answered}");
+    Ok(())
+}
+
+/// A call of client 1 that its server serves, and its answer.
+fn issue(alloc: Global) -> Result<Event, Fail> {
+    let name = Name::read(alloc, b"a".as_slice())?;
+    Ok(Event::Issue {
+        client: 1,
+        call: Call::Create { dir: 1, name },
+    })
+}
+
+fn serve(alloc: Global, how: ServeEnd) -> Result<Event, Fail> {
+    let mut places = PlaceList::new(alloc);
+    places.push(0)?;
+    Ok(Event::Serve {
+        server: 1,
+        places,
+        how,
+    })
+}
+
+const TAKE: Event = Event::Take {
+    client: 1,
+    place: 1,
+};
+
+#[test]
+fn a_run_goes_on_to_the_first_event_that_is_not_enabled(rt: HostRuntime) -> Result<(), Fail> {
+    laws_of_runs();
+    let alloc = rt.alloc();
+    let answered = [issue(alloc)?, serve(alloc, ServeEnd::Done)?, TAKE];
+    match run(alloc, SETUP, answered.as_slice())? {
+        Ran::NotEnabled { place } => assert!(rt; false, "{place}"),
+        Ran::Whole(world) => {
+            assert_eq!(rt; world.sent().len(), 2);
+            assert_eq!(rt; world.setup(), SETUP);
+            assert_eq!(rt; world.now(), 0);
+            assert!(rt; !is_busy(&world, 1));
+        }
+    }
+    // A server that stopped sent nothing that a client could take.
+    let stopped = [issue(alloc)?, serve(alloc, ServeEnd::Stop)?, TAKE];
+    match run(alloc, SETUP, stopped.as_slice())? {
+        Ran::NotEnabled { place } => assert_eq!(rt; place, 2),
+        Ran::Whole(_) => assert!(rt; false),
+    }
     Ok(())
 }
