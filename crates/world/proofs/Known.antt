@@ -1,7 +1,6 @@
 -- Whether clients know each partition of a bitmap, by its items and by its numbers.
-use Rattle.std.proofs.Common.{◌≡◌, ◌∙◌, sym, ap, subst, refl, ℕ, zero, suc, ◌+◌, ◌<◌, ◌^◌, Bool, true, false, List, [], ◌∷◌, Some, inl, inr, arith, IsTrue}
-use Rattle.std.specs.Prelude.{◌⊎◌}
-use Rattle.std.specs.List.{slice_get, list_all, list_any}
+use Rattle.std.proofs.Common.{◌≡◌, ◌∙◌, sym, ap, refl, ℕ, suc, Bool, true, false, List, [], ◌∷◌, Some}
+use Rattle.std.specs.List.{slice_get, list_all}
 use Rattle.std.specs.FinSet as set
 use Rattle.std.specs.Ordering.{nat_cmp, eq_by_cmp}
 use Rattle.std.specs.Cmp.{nat_cmp_total}
@@ -30,7 +29,7 @@ all_items p bits each =
 pub not_all_items : (p : ℕ → Bool) (bits : Bits) (q : ℕ) → has bits q ≡ true → p q ≡ false → list_all p (set.items bits) ≡ false
 not_all_items p bits q there fails =
     not_true (list_all p (set.items bits)) (λ all.
-        let i = any_true (eq_by_cmp nat_cmp q) (set.items bits) (sym (set.contains-items bits q) ∙ there) in
-        let t : p i.item ≡ true = all_true p (set.items bits) all i.place i.item i.is in
-        let s : p q ≡ true = ap p (same_key q i.item i.good) ∙ t in
-        cc)
+    let i = any_true (eq_by_cmp nat_cmp q) (set.items bits) (sym (set.contains-items bits q) ∙ there) in
+    let t : p i.item ≡ true = all_true p (set.items bits) all i.place i.item i.is in
+    let s : p q ≡ true = ap p (same_key q i.item i.good) ∙ t in
+    cc)

@@ -1,12 +1,11 @@
 -- Runs with one event more.
-use Rattle.std.proofs.Common.{◌≡◌, ◌∙◌, sym, ap, subst, refl, ℕ, ◌+◌, ◌<◌, ◌≤◌, ◌&&◌, Bool, true, false, List, [], ◌∷◌, ◌++◌, length, get_or, take, arith}
+use Rattle.std.proofs.Common.{◌≡◌, ◌∙◌, sym, ap, subst, refl, ℕ, ◌+◌, ◌<◌, ◌≤◌, true, false, List, [], ◌∷◌, ◌++◌, length, get_or, take, arith}
 use Rattle.std.specs.FinMap as map
 use Rattle.std.proofs.lemmas.Bool.{and_parts, and_from}
 use Rattle.std.proofs.lemmas.List.{take_more, take_all}
 use Rattle.std.proofs.lemmas.Option.{slice_get_read}
 use Rattle.mds_base.specs.declared.setup.Setup.{Setup}
 use Rattle.world.specs.declared.event.Event.{Event}
-use Rattle.world.specs.declared.state.ServerState.{ServerState}
 use Rattle.world.specs.Worlds.{WorldV, fresh_world, new_world}
 use Rattle.world.specs.Events.{enabled, step, steps, all_enabled}
 use Rattle.world.specs.Histories.{Trace, happens, run}

@@ -1,5 +1,5 @@
 -- Events keep the ranges of a world's numbers.
-use Rattle.std.proofs.Common.{◌≡◌, ◌∙◌, sym, ap, subst, refl, ℕ, zero, suc, ◌+◌, ◌-◌, ◌^◌, ◌<◌, ◌≤◌, ◌&&◌, not, Bool, true, false, cond, List, [], ◌∷◌, ◌++◌, length, get_or, Option, Some, None, inl, inr, arith, append_assoc}
+use Rattle.std.proofs.Common.{◌≡◌, ◌∙◌, sym, ap, subst, refl, ℕ, suc, ◌+◌, ◌-◌, ◌^◌, ◌<◌, ◌&&◌, not, Bool, true, false, List, [], ◌∷◌, ◌++◌, get_or, Option, Some, None, arith, append_assoc}
 use Rattle.std.specs.Prelude.{slice_set}
 use Rattle.std.specs.Prelude.{map as list_map}
 use Rattle.std.specs.List.{slice_get, range_with_len}
@@ -19,7 +19,7 @@ use Rattle.node_core.specs.Serving.{serve, served_as}
 use Rattle.node_core.specs.Ranges as node
 use Rattle.node_core.specs.Ranges.{DirFits, RecordFits}
 use Rattle.client_core.specs.declared.client.Pending.{Pending}
-use Rattle.client_core.specs.Clients.{ClientV, dir_of, issued, issue_msg, resent, resend_msg, SendsAgain}
+use Rattle.client_core.specs.Clients.{ClientV, dir_of, issued, issue_msg, SendsAgain}
 use Rattle.client_core.specs.Taking.{take, take_at, answered_if, busy_if, held_if, redirected_if}
 use Rattle.client_core.specs.Taking as taking
 use Rattle.world.specs.declared.state.ServerState.{ServerState}

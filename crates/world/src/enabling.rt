@@ -205,7 +205,5 @@ pub fn are_known(clients: &[ClientState], dir: u64, bitmap: &Bitmap) -> bool
 fn is_known(clients: &[ClientState], dir: u64, part: u32) -> bool
     ensures { result ≡ is_known clients.now dir part }
 {
-    clients
-        .iter()
-        .any(|seat| seat.client.bitmap(dir).has(part))
+    clients.iter().any(|seat| seat.client.bitmap(dir).has(part))
 }

@@ -17,6 +17,7 @@ const SETUP: Setup = Setup {
 
 /// How many schedules are tried, and how many events each tries.
 const SCHEDULES: u64 = 400;
+
 const EVENTS: u32 = 150;
 
 /// The names are `a` and `b`, in the directories 1 to 3.
@@ -199,12 +200,7 @@ impl Plain {
     }
 
     /// The records in doubt of a server take effect.
-    fn kept(
-        &mut self,
-        rt: &impl Abort,
-        servers: &[ServerState],
-        server: u32,
-    ) -> Result<(), Fail> {
+    fn kept(&mut self, rt: &impl Abort, servers: &[ServerState], server: u32) -> Result<(), Fail> {
         let Some(state) = servers.get(server as usize) else {
             return Ok(());
         };
@@ -256,12 +252,14 @@ impl Plain {
 
     /// A call was answered by the message at this place: by the reply of its effect.
     fn answered(&mut self, rt: &impl Abort, sent: &[Msg], place: u64) {
-        let Some(Msg::Answer {
-            client,
-            seq,
-            reply,
-            ..
-        }) = sent.get(place as usize)
+        let Some(
+            Msg::Answer {
+                client,
+                seq,
+                reply,
+                ..
+            },
+        ) = sent.get(place as usize)
         else {
             return;
         };

@@ -110,9 +110,7 @@ impl World {
                 can_serve(self.servers.get(*server as usize))
                     && serves_at(self.sent.messages(), *server, places)
             }
-            Event::Miss { place } => {
-                misses(&self.servers, msg_at(self.sent.messages(), *place))
-            }
+            Event::Miss { place } => { misses(&self.servers, msg_at(self.sent.messages(), *place)) }
             Event::Take { client, place } => {
                 can_take(seat_at(&self.clients, *client))
                     && is_for_client(*client, msg_at(self.sent.messages(), *place))
@@ -123,8 +121,7 @@ impl World {
                 dir,
                 bitmap,
             } => {
-                can_take(seat_at(&self.clients, *client))
-                    && are_known(&self.clients, *dir, bitmap)
+                can_take(seat_at(&self.clients, *client)) && are_known(&self.clients, *dir, bitmap)
             }
             Event::Remind { server } => is_up(self.servers.get(*server as usize)),
             Event::Stop { server, cause } => can_stop(self.servers.get(*server as usize), *cause),

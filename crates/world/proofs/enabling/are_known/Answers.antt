@@ -1,4 +1,4 @@
-use Rattle.std.proofs.Common.{◌∙◌, ◌<◌, ◌^◌, sym, IsTrue, arith}
+use Rattle.std.proofs.Common.{◌∙◌, ◌<◌, ◌^◌, sym, arith}
 use Rattle.world.specs.Events.{is_known}
 use Rattle.world.proofs.Known.{all_items, not_all_items}
 use Rattle.world.proofs.enabling.are_known.Goals as goal
@@ -10,5 +10,5 @@ returns-then-not-is_known c =
 pub returns : goal.returns
 returns c =
     sym (all_items (is_known c.args.clients.now c.args.dir) c.args.bitmap.now (λ q there.
-        let below : q < 2 ^ 10 = c.has-whole.ensures.well_formed.below q there in
-        c.loop-part.invariant q (omega (arith, below)) there))
+    let below : q < 2 ^ 10 = c.has-whole.ensures.well_formed.below q there in
+    c.loop-part.invariant q (omega (arith, below)) there))

@@ -1,4 +1,4 @@
-use Rattle.std.proofs.Common.{◌∙◌, sym, refl, arith}
+use Rattle.std.proofs.Common.{◌∙◌, sym, arith}
 use Rattle.world.proofs.Runs.{still_enabled, still_steps, stops_at, runs_whole, holds_whole}
 use Rattle.world.proofs.running.run.Goals as goal
 
