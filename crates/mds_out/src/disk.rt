@@ -1,5 +1,5 @@
 //! Numbered files that a crash may leave in another state than they read.
-ghost use Rattle.std.specs.Prelude.{◌≡◌, ◌+◌, ◌-◌, ◌*◌, ◌^◌, ◌<◌, ◌≤◌, List, ℕ, Option, Some, max, length, take, drop, IfOk, OnOk, OnErr, IsErrOf};
+ghost use Rattle.std.specs.Prelude.{◌≡◌, ◌+◌, ◌-◌, ◌*◌, ◌^◌, ◌<◌, ◌≤◌, List, ℕ, Option, Some, max, length, take, drop, IfOk, OnOk, OnErr, IsErrOf, ⊤};
 ghost use Rattle.mds_out.specs.declared.disk.DiskFault.TheVariants.{OutOfMemory};
 ghost use Rattle.mds_out.specs.Known.{OnKnown, OnTold};
 ghost use Rattle.mds_out.specs.Images.{IsTorn, IsShortened, StepsGiveImages, ImagesComeByStep};
@@ -110,9 +110,11 @@ pub trait Disk {
         ensures cause { HasDiskCause (faults self.old) (faults self.new) result };
 
     /// Brings the disk up after a crash: what it tells then reads as one of the images that a crash could have left,
-    /// and each image directly after it is one of those. A refused restart changes nothing.
+    /// and each image directly after it is one of those. It tells the files that it told before. A refused restart
+    /// changes nothing.
     fn restart(&mut self) -> Result<(), DiskFault>
         ensures left { OnOk result ((image : Image) × images self.old image × Shows (seen self.new) image) }
+        ensures tells { OnOk result ((file : ℕ) → Tells (seen self.old file) (seen self.new file) (λ old new. ⊤)) }
         ensures crash { (image : Image) → images self.new image → images self.old image }
         ensures unchanged { OnErr result (IsUnchanged (seen self.old) (seen self.new) (sizes self.old) (sizes self.new)) }
         ensures refused { OnErr result (AreSame (images self.old) (images self.new)) }

@@ -1,5 +1,5 @@
 //! A fuse round a disk, which refuses calls from a chosen one on.
-ghost use Rattle.std.specs.Prelude.{◌≡◌, ◌+◌, ◌-◌, ◌*◌, ◌^◌, ◌<◌, ◌≤◌, None, Some, true, false, min, max, length, take, drop, IfOk, OnOk, OnErr, IsErrOf, MatchBool};
+ghost use Rattle.std.specs.Prelude.{◌≡◌, ◌+◌, ◌-◌, ◌*◌, ◌^◌, ◌<◌, ◌≤◌, None, Some, true, false, min, max, length, take, drop, IfOk, OnOk, OnErr, IsErrOf, MatchBool, ⊤, ℕ};
 ghost use Rattle.mds_out.specs.Known.{OnKnown, OnTold};
 ghost use Rattle.mds_out.specs.Images.{IsTorn, IsShortened};
 ghost use Rattle.mds_out.specs.Disk.{Image, Tells, put, Shows, IsUnchanged, IsElsewhereUnchanged, AreSame, Follows, Elapses, HasDiskCause};
@@ -184,6 +184,7 @@ impl<D: Disk> Disk for Fuse<D> {
 
     fn restart(&mut self) -> Result<(), DiskFault>
         ensures left { OnOk result ((image : Image) × D.images self.old.inner image × Shows (D.seen self.new.inner) image) }
+        ensures tells { OnOk result ((file : ℕ) → Tells (D.seen self.old.inner file) (D.seen self.new.inner file) (λ old new. ⊤)) }
         ensures crash { (image : Image) → D.images self.new.inner image → D.images self.old.inner image }
         ensures unchanged { OnErr result (IsUnchanged (D.seen self.old.inner) (D.seen self.new.inner) (D.sizes self.old.inner) (D.sizes self.new.inner)) }
         ensures refused { OnErr result (AreSame (D.images self.old.inner) (D.images self.new.inner)) }
