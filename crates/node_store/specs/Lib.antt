@@ -1,5 +1,4 @@
-pub mod Change
-pub mod Node
+pub mod Damage
 pub mod Refused
 pub mod Stands
 pub mod Store
