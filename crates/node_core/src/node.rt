@@ -2,7 +2,7 @@ ghost use Rattle.std.specs.Prelude.{◌≡◌, ℕ, ◌+◌, ◌==◌, ◌^◌, 
 ghost use Rattle.std.specs.FinMap as map;
 ghost use Rattle.sessions.specs.declared.kept.Judged.{Judged};
 ghost use Rattle.sessions.specs.Kept.{judge_kept};
-ghost use Rattle.node_core.specs.Nodes.{part_cmp, new_part, new_node, owns, session_in, has_numbers};
+ghost use Rattle.node_core.specs.Nodes.{part_cmp, new_part, new_node, owns, session_in, has_numbers, parts_cleared};
 ghost use Rattle.mds_base.specs.RowsCause.{HasRowsCause};
 ghost use Rattle.node_core.specs.Edits.{parts_noted, node_noted, numbers_of};
 ghost use Rattle.node_core.specs.Rules.{ChangeOf, LookOf, asked_of, found};
@@ -282,8 +282,9 @@ impl Node {
         })
     }
 
-    /// Replays the record of a change, and answers true exactly where it may follow (`docs/DEFINITIONS.md`, "Records
-    /// that may follow"); else nothing changes. Where it is refused the node and the rows stay as they are.
+    /// Replays a record, and answers true exactly where it may follow (`docs/DEFINITIONS.md`, "Records that may
+    /// follow"); else nothing changes. Where it is refused the node and the rows stay as they are. A change takes what
+    /// serving it takes; the beginning of a run takes a time that grows with the number of sessions, and no memory.
     pub fn replay<R: Rows>(
         &mut self,
         alloc: Global,
@@ -309,7 +310,10 @@ impl Node {
                 server,
                 threshold,
             } => Ok(self.heads(*format, *servers, *server, *threshold)),
-            Record::Opened => Ok(false),
+            Record::Opened => {
+                clear_in(&mut self.parts);
+                Ok(true)
+            }
         }
     }
 
@@ -546,6 +550,16 @@ fn note_in(
     part.note(client, seq, weighed, before)?;
     parts.insert((dir, 0), part)?;
     Ok(())
+}
+
+// Forgets the sessions of all partitions. It takes no memory.
+fn clear_in(parts: &mut BTreeMap<(u64, u32), Part>)
+    ensures { map.from_entries {R = part_cmp} parts.new.entries ≡ parts_cleared (map.from_entries parts.old.entries) }
+{
+    parts.retain(|_, part| {
+        part.sessions.clear();
+        true
+    });
 }
 
 fn numbers_of(said: Final) -> u64
