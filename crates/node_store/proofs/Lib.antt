@@ -1,3 +1,3 @@
-pub mod Standing
 pub mod Serving
+pub mod Standing
 pub mod Stores
