@@ -1,3 +1,1 @@
-pub mod Standing
-pub mod Serving
-pub mod Stores
+pub mod ReadingRecords

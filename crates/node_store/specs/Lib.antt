@@ -1,5 +1,5 @@
 pub mod Damage
-pub mod Refused
 pub mod Stands
 pub mod Store
 pub mod Serve
+pub mod Reading
