@@ -1,1 +1,3 @@
 pub mod ReadingRecords
+pub mod ReadingLogs
+pub mod ReadingNodes

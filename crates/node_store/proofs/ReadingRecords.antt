@@ -126,7 +126,7 @@ call_fits (Link dir name id) change = absurd change
 
 pub fits : (item : Record) → IsRecord item → RecordFits item
 fits (Begins format servers server threshold) is = tt
-fits Opened is = ?
+fits Opened is = tt
 fits (Served client seq part call said) is = call_fits call is.change
 
 abbrev with : NodeV → RowMap → StoreV

@@ -1,5 +1,6 @@
 pub mod Damage
+pub mod Parts
+pub mod Reading
+pub mod Serve
 pub mod Stands
 pub mod Store
-pub mod Serve
-pub mod Reading

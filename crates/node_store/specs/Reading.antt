@@ -15,8 +15,11 @@ use Rattle.records.specs.declared.record.Record.TheVariants as records
 use Rattle.records.specs.Spelling.{IsRecord, IsHead, Spells, record_spelling}
 use Rattle.node_core.specs.Nodes.{StoreV}
 use Rattle.node_core.specs.Serving.{may_follow, replayed, replayed_all}
-use Rattle.node_store.specs.Stands.{all_follow, IsBody, head_of}
-use Rattle.node_store.specs.Damage.{NoneFollows, head_spelling, wanted_head}
+use Rattle.gate_log.specs.Calls.{HasRead}
+use Rattle.gate_log.specs.LogState.{LogState}
+use Rattle.node_store.specs.Stands.{StandFor, all_follow, IsBody, head_of}
+use Rattle.node_store.specs.Damage.{NoneFollows, IsDamaged, head_spelling, wanted_head}
+use Rattle.node_store.specs.Store.{HoldsStore}
 
 -- a record whose spelling of so many bytes begins these, or none
 abbrev pub IsFrontOf : List ℕ → Option (Record × ℕ) → Type 0
@@ -112,3 +115,18 @@ IsRefusal bad seen faults.Stopped = ⊥
 IsRefusal bad seen (faults.Damaged file place damage) = (file ≡ 1) × OnTold seen (bad place damage)
 IsRefusal bad seen faults.Room = ⊥
 IsRefusal bad seen faults.OutOfMemory = ⊤
+
+-- the bodies before the gate at this place stand for the store
+pub record HasReplayed (server : ℕ) (setup : Setup) (log : LogState) (gate : ℕ) (store : StoreV) (bytes : List ℕ) : Type 0 where
+  pub bodies : List (List ℕ)
+  pub has : HasRead log gate bodies bytes
+  pub stands : StandFor server setup bodies store
+
+-- at the log's end the bytes hold the store, else the bodies before the next gate stand for it
+abbrev pub ReplaysOn : ℕ → Setup → LogState → Option ℕ → StoreV → List ℕ → Type 0
+ReplaysOn server setup log None store bytes = HoldsStore server setup log store bytes
+ReplaysOn server setup log (Some next) store bytes = HasReplayed server setup log next store bytes
+
+-- the bytes that the disk tells stand for no store of this server, and this is why
+abbrev pub IsBad : ℕ → Setup → ℕ → Damage → List ℕ → Type 0
+IsBad server setup place damage bytes = IsDamaged server setup bytes place damage
