@@ -24,16 +24,25 @@ regroup front len body rest = simp append_assoc
 
 pub body_stands : (before after : List (List ℕ)) (body file : List ℕ) → HoldsLog (before ++ body ∷ after) file → take (length body) (drop (body_place before) file) ≡ body
 body_stands before after body file holds =
-    let len = to_be_bytes w32 (length body) in
-    let tail = log_bytes after ++ holds.gate ∷ holds.rest in
-    let front = (log_bytes before ++ 1 ∷ []) ++ len in
-    let whole : file ≡ front ++ (body ++ tail) =
-      holds.split ∙ ap (λ l. l ++ holds.gate ∷ holds.rest) (log_bytes-append before (body ∷ after))
-      ∙ append_assoc (log_bytes before) (1 ∷ framed body ++ log_bytes after) (holds.gate ∷ holds.rest)
-      ∙ ap (λ l. log_bytes before ++ l) (append_assoc (1 ∷ framed body) (log_bytes after) (holds.gate ∷ holds.rest))
-      ∙ regroup (log_bytes before) len body tail in
-    let size : length front ≡ body_place before = omega (arith, length-append (log_bytes before ++ 1 ∷ []) len, length-append (log_bytes before) (1 ∷ [])) in
     ap (λ l. take (length body) (drop (body_place before) l)) whole ∙ ap (take (length body)) (drop_at front (body ++ tail) (body_place before) size) ∙ take_at body tail (length body) refl
+  where
+    len : List ℕ
+    len = to_be_bytes w32 (length body)
+
+    front : List ℕ
+    front = (log_bytes before ++ 1 ∷ []) ++ len
+
+    tail : List ℕ
+    tail = log_bytes after ++ holds.gate ∷ holds.rest
+
+    whole : file ≡ front ++ (body ++ tail)
+    whole = holds.split ∙ ap (λ l. l ++ holds.gate ∷ holds.rest) (log_bytes-append before (body ∷ after))
+        ∙ append_assoc (log_bytes before) (1 ∷ framed body ++ log_bytes after) (holds.gate ∷ holds.rest)
+        ∙ ap (λ l. log_bytes before ++ l) (append_assoc (1 ∷ framed body) (log_bytes after) (holds.gate ∷ holds.rest))
+        ∙ regroup (log_bytes before) len body tail
+
+    size : length front ≡ body_place before
+    size = omega (arith, length-append (log_bytes before ++ 1 ∷ []) len, length-append (log_bytes before) (1 ∷ []))
 
 -- a log that is open is as long as its bodies make it
 pub length_known : (log : LogState) (images : Image → Type 0) (bodies : List (List ℕ)) (bytes : List ℕ) → IsKept log images bytes → HoldsLog bodies bytes → log.length ≡ log_length bodies

@@ -1,3 +1,6 @@
+pub mod ReadingLogs
+pub mod ReadingNodes
+pub mod ReadingRecords
 pub mod Serving
 pub mod Standing
 pub mod Stores

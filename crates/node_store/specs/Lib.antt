@@ -1,5 +1,6 @@
 pub mod Damage
 pub mod Parts
+pub mod Reading
 pub mod Refused
 pub mod Serve
 pub mod Stands

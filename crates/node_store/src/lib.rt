@@ -7,7 +7,10 @@
 //! records in doubt or none.
 #![tactic(auto)]
 
+mod fuse;
 mod node_store;
+mod reading;
+mod restart;
 mod serve;
 
 pub use node_store::{NodeStore, Refused};
