@@ -29,6 +29,7 @@ use Rattle.node_core.specs.Rules.{Asked, ChangeOf, LookOf, NotServed, asked_of, 
 use Rattle.node_core.specs.Serving.{serve, served_as, carried_at, part_at, may_follow, may_carry, is_new_change, replayed, replayed_as, replayed_all}
 use Rattle.node_core.proofs.ReplayLaw.{replay_law}
 use Rattle.node_core.proofs.Replayed.{follows_so}
+use Rattle.node_store.proofs.ReadingNodes.{still_all}
 use Rattle.node_store.specs.Parts.{IsNodeOf}
 use Rattle.node_store.specs.Serve.{IsAsked, IsWellMade, IsMessage}
 use Rattle.node_store.specs.Stands.{all_follow, IsBody}
@@ -172,27 +173,8 @@ serve_records store (Installed to dir part child) now made numbers few from_two 
 
 -- ---- the node stays its server's
 
-module _ (server : ℕ) (setup : Setup) where
-  carried_stays : (store : StoreV) (client seq : ℕ) (call : Call) (a : Asked) → IsNodeOf server setup store.node → IsNodeOf server setup (carried_at store client seq call a).node
-  unfolding noted_in
-  carried_stays store client seq call (ChangeOf dir name) is = record { server' = is.server'; setup' = is.setup'; from_two = let low = is.from_two in omega arith }
-  carried_stays store client seq call (LookOf dir name) is = is
-  carried_stays store client seq call NotServed is = is
-
-  replayed_stays : (store : StoreV) (item : Record) (follows : Bool) → IsNodeOf server setup store.node → IsNodeOf server setup (replayed_as store item follows).node
-  replayed_stays store (Served client seq part call said) true is = carried_stays store client seq call (asked_of call) is
-  replayed_stays store (Served client seq part call said) false is = is
-  replayed_stays store Opened true is = record { server' = is.server'; setup' = is.setup'; from_two = is.from_two }
-  replayed_stays store Opened false is = is
-  replayed_stays store (Head format servers own threshold) true is = is
-  replayed_stays store (Head format servers own threshold) false is = is
-
-  pub all_stay : (store : StoreV) (items : List Record) → IsNodeOf server setup store.node → IsNodeOf server setup (replayed_all store items).node
-  all_stay store [] is = is
-  all_stay store (item ∷ items) is = all_stay (replayed store item) items (replayed_stays store item (may_follow store item) is)
-
-  pub serve_stays : (store : StoreV) (msg : Msg) (now : ℕ) → has_numbers store.node ≡ true → IsNodeOf server setup store.node → IsNodeOf server setup (serve store msg now).store.node
-  serve_stays store msg now numbers is = subst (λ (s : StoreV). IsNodeOf server setup s.node) (replay_law store msg now numbers) (all_stay store (serve store msg now).records is)
+pub serve_stays : (server : ℕ) (setup : Setup) (store : StoreV) (msg : Msg) (now : ℕ) → has_numbers store.node ≡ true → IsNodeOf server setup store.node → IsNodeOf server setup (serve store msg now).store.node
+serve_stays server setup store msg now numbers is = subst (λ (s : StoreV). IsNodeOf server setup s.node) (replay_law store msg now numbers) (still_all server setup store (serve store msg now).records is)
 
 -- ---- a body of a Serve's records
 

@@ -10,7 +10,8 @@ ghost use Rattle.node_store.specs.Refused.{IsServeFault};
 ghost use Rattle.node_store.specs.Serve.{IsMessage, IsOneMessage, HasServed, HasStopped, HasStoreCause};
 ghost use Rattle.node_store.specs.Store.{KeepsStore, StandsForEither, IsDownAt};
 
-use crate::serve::{Refusal, serve_on, store_fault};
+use crate::reading::store_fault;
+use crate::serve::{Refusal, serve_on};
 use gate_log::GateLog;
 use mds_base::{MapRows, Setup, StoreFault};
 use mds_out::Disk;

@@ -11,13 +11,13 @@ ghost use Rattle.mds_out.specs.Known.{OnTold};
 ghost use Rattle.node_core.specs.Nodes.{StoreV, has_numbers};
 ghost use Rattle.node_core.specs.Serving.{serve, IsServed, replayed_all};
 ghost use Rattle.node_store.specs.Parts.{IsNodeOf, OfEach, OfEachBody};
-ghost use Rattle.node_store.specs.Refused.{AreDisks, InDoubt, HasRefusalCause, fault_of};
+ghost use Rattle.node_store.specs.Refused.{AreDisks, InDoubt, HasRefusalCause};
 ghost use Rattle.node_store.specs.Serve.{IsMessage};
 ghost use Rattle.node_store.specs.Stands.{IsBody};
 ghost use Rattle.node_store.specs.Store.{IsKept, LeavesDoubt, StandsForEither};
 
 use gate_log::{GateLog, LogFault, Piece};
-use mds_base::{Damage, MapRows, RowsFault, StoreFault};
+use mds_base::MapRows;
 use mds_out::Disk;
 use node_core::Node;
 use records::{Handled, Msg, Record, RecordList, write};
@@ -170,21 +170,5 @@ pub(crate) fn serve_on<D: Disk>(
             let Handled { records, .. } = handled;
             Err(Refusal::Disk(fault, records))
         }
-    }
-}
-
-/// What a store answers where its log refused.
-pub(crate) fn store_fault(fault: LogFault) -> StoreFault
-    ensures { result ≡ fault_of fault }
-{
-    match fault {
-        LogFault::Device => StoreFault::Device,
-        LogFault::Stopped => StoreFault::Stopped,
-        LogFault::BadLog { place } => StoreFault::Damaged {
-            file: 1,
-            place,
-            damage: Damage::Spelling,
-        },
-        LogFault::OutOfMemory => StoreFault::OutOfMemory,
     }
 }
