@@ -1,3 +1,5 @@
+pub mod Standing
 pub mod ReadingRecords
 pub mod ReadingLogs
 pub mod ReadingNodes
+pub mod OpeningLaws

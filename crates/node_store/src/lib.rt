@@ -1,4 +1,7 @@
 //! A server on a disk.
 #![tactic(auto)]
 
+mod laws;
 mod reading;
+
+pub use laws::laws_of_disks;
