@@ -20,19 +20,9 @@ use Rattle.node_store.specs.Damage.{NoneFollows, HasFirst, IsHeadless, IsForeign
 use Rattle.node_store.specs.Stands.{StandFor, IsBody, AreBodies, all_of, all_follow, head_of, new_store}
 use Rattle.node_store.specs.Store.{HoldsStore}
 use Rattle.node_store.specs.Reading.{LeadsOn, IsWrongWithin, IsWrongHead, IsBodyRead, IsHeadRead, HasReplayed, ReplaysOn, IsRefusal, IsBad}
-use Rattle.node_store.proofs.ReadingRecords.{replayed_append, follow_append}
+use Rattle.node_store.proofs.Standing.{replayed_more, follow_more, stand_more}
 
 -- ---- bodies that stand for a store
-
-all_more : (items : List (List Record)) (body : List Record) → all_of (items ++ body ∷ []) ≡ all_of items ++ body
-all_more [] body = append-nil body
-all_more (first ∷ items) body = ap (λ (more : List Record). first ++ more) (all_more items body) ∙ sym (append_assoc first (all_of items) body)
-
-bodies_more : (bodies : List (List ℕ)) (items : List (List Record)) (body : List ℕ) (these : List Record) → AreBodies bodies items → IsBody body these → AreBodies (bodies ++ body ∷ []) (items ++ these ∷ [])
-bodies_more [] [] body these are is = (is, tt)
-bodies_more [] (first ∷ items) body these are is = absurd are
-bodies_more (first ∷ bodies) [] body these are is = absurd are
-bodies_more (first ∷ bodies) (others ∷ items) body these are is = (are.0, bodies_more bodies items body these are.1 is)
 
 -- the head alone stands for the new store
 pub stand_first : (server : ℕ) (setup : Setup) (body : List ℕ) → body ≡ record_spelling (head_of server setup) → StandFor server setup (body ∷ []) (new_store server setup)
@@ -40,14 +30,7 @@ stand_first server setup body is = record { rest = []; items = []; head = ap (λ
 
 -- one body more, whose records may follow
 pub stand_on : (server : ℕ) (setup : Setup) (bodies : List (List ℕ)) (old new : StoreV) (body : List ℕ) → StandFor server setup bodies old → LeadsOn old body new → StandFor server setup (bodies ++ body ∷ []) new
-stand_on server setup bodies old new body s leads = record {
-  rest = s.rest ++ body ∷ [];
-  items = s.items ++ leads.items ∷ [];
-  head = ap (λ (b : List (List ℕ)). b ++ body ∷ []) s.head;
-  are = bodies_more s.rest s.items body leads.items s.are leads.is;
-  follow = subst (λ (l : List Record). all_follow (new_store server setup) l ≡ true) (sym (all_more s.items leads.items)) (follow_append (new_store server setup) (all_of s.items) leads.items s.follow (subst (λ (at : StoreV). all_follow at leads.items ≡ true) s.leads leads.follow));
-  leads = leads.leads ∙ ap (λ (at : StoreV). replayed_all at leads.items) s.leads ∙ sym (replayed_append (new_store server setup) (all_of s.items) leads.items) ∙ ap (replayed_all (new_store server setup)) (sym (all_more s.items leads.items));
-}
+stand_on server setup bodies old new body s leads = subst (StandFor server setup (bodies ++ body ∷ [])) (sym leads.leads) (stand_more server setup bodies old body leads.items s leads.is leads.follow)
 
 -- ---- what a refusal says
 
@@ -65,7 +48,7 @@ never_bad bad seen fault is = refused_more (λ place damage bytes. ⊥) bad seen
 
 -- ---- the first body
 
-long_enough : (body bytes : List ℕ) (after : List (List ℕ)) → HoldsLog (body ∷ after) bytes → 2 ≤ length bytes
+pub long_enough : (body bytes : List ℕ) (after : List (List ℕ)) → HoldsLog (body ∷ after) bytes → 2 ≤ length bytes
 long_enough body bytes after holds = omega (arith, ap length holds.split, length-append (log_bytes (body ∷ after)) (holds.gate ∷ holds.rest))
 
 pub first_read : (seen : Option (List ℕ)) (log : LogState) (server : ℕ) (setup : Setup) (next : ℕ) (body : List ℕ) → OnTold seen (ReadsOn log [] (Some next) body) → body ≡ record_spelling (head_of server setup)
@@ -120,8 +103,8 @@ module _ (server : ℕ) (setup : Setup) (log : LogState) (at : ℕ) where
         each = wrong.each;
         rest = wrong.rest;
         split = wrong.split;
-        follow = follow_append new (all_of s.items) wrong.front s.follow (subst (λ (store : StoreV). all_follow store wrong.front ≡ true) s.leads wrong.follow);
-        none = subst (λ (store : StoreV). NoneFollows store wrong.rest) (ap (λ (store : StoreV). replayed_all store wrong.front) s.leads ∙ sym (replayed_append new (all_of s.items) wrong.front)) wrong.none;
+        follow = follow_more new (all_of s.items) wrong.front s.follow (subst (λ (store : StoreV). all_follow store wrong.front ≡ true) s.leads wrong.follow);
+        none = subst (λ (store : StoreV). NoneFollows store wrong.rest) (ap (λ (store : StoreV). replayed_all store wrong.front) s.leads ∙ sym (replayed_more new (all_of s.items) wrong.front)) wrong.none;
         empty = wrong.empty;
         place_is = omega (arith, has.has.at.place_is, ap (λ (b : List (List ℕ)). length (log_bytes b)) s.head, wrong.place_is);
       }

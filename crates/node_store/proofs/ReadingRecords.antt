@@ -22,6 +22,7 @@ use Rattle.node_core.specs.Ranges.{RecordFits, dir_of}
 use Rattle.node_core.specs.Serving.{may_follow, replayed, replayed_as, replayed_all, IsReplayed}
 use Rattle.node_store.specs.Damage.{NoneFollows}
 use Rattle.node_store.specs.Stands.{all_follow, IsBody}
+use Rattle.node_store.proofs.Standing.{replayed_more, follow_more}
 use Rattle.node_store.specs.Reading.{TakesRecord, TakesFirst, IsFrontOf, IsHeadOf, IsHeadFound, IsRead, IsBodyRead, LeadsOn, IsWrongWithin}
 
 abbrev reads : Decodes Spells record_at
@@ -46,16 +47,6 @@ some_byte (Served client seq part call said) = omega arith
 pub each_append : (xs ys : List Record) → AllByRecursion IsRecord xs → AllByRecursion IsRecord ys → AllByRecursion IsRecord (xs ++ ys)
 each_append [] ys first second = second
 each_append (x ∷ xs) ys first second = (first.0, each_append xs ys first.1 second)
-
-pub replayed_append : (store : StoreV) (xs ys : List Record) → replayed_all store (xs ++ ys) ≡ replayed_all (replayed_all store xs) ys
-replayed_append store [] ys = refl
-replayed_append store (x ∷ xs) ys = replayed_append (replayed store x) xs ys
-
-pub follow_append : (store : StoreV) (xs ys : List Record) → all_follow store xs ≡ true → all_follow (replayed_all store xs) ys ≡ true → all_follow store (xs ++ ys) ≡ true
-follow_append store [] ys first second = second
-follow_append store (x ∷ xs) ys first second =
-    let parts = and_parts (may_follow store x) (all_follow (replayed store x) xs) first in
-    and_from (may_follow store x) (all_follow (replayed store x) (xs ++ ys)) parts.0 (follow_append (replayed store x) xs ys parts.1 second)
 
 -- ---- the record at the front of some bytes
 
@@ -174,8 +165,8 @@ reads_on old mid new body rest place count so_far rest_is takes =
       each = each_append so_far.front (item ∷ []) so_far.each (takes.spelled.0, tt);
       some = omega (arith, length-append so_far.front (item ∷ []));
       split = take-add place count body ∙ ap (λ (l : List ℕ). l ++ take count (drop place body)) so_far.split ∙ ap (λ (l : List ℕ). flat_map record_spelling so_far.front ++ l) (bytes ∙ sym (append-nil (record_spelling item))) ∙ sym (flat_map-append record_spelling so_far.front (item ∷ []));
-      follow = follow_append old so_far.front (item ∷ []) so_far.follow (and_from (may_follow (replayed_all old so_far.front) item) true (subst (λ (s : StoreV). may_follow s item ≡ true) so_far.leads takes.follows) refl);
-      leads = takes.leads ∙ ap (λ (s : StoreV). replayed s item) so_far.leads ∙ sym (replayed_append old so_far.front (item ∷ []));
+      follow = follow_more old so_far.front (item ∷ []) so_far.follow (and_from (may_follow (replayed_all old so_far.front) item) true (subst (λ (s : StoreV). may_follow s item ≡ true) so_far.leads takes.follows) refl);
+      leads = takes.leads ∙ ap (λ (s : StoreV). replayed s item) so_far.leads ∙ sym (replayed_more old so_far.front (item ∷ []));
     }
 
 -- the body goes on

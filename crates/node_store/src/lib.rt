@@ -8,9 +8,11 @@
 #![tactic(auto)]
 
 mod fuse;
+mod laws;
 mod node_store;
 mod reading;
 mod restart;
 mod serve;
 
+pub use laws::laws_of_disks;
 pub use node_store::{NodeStore, Refused};
