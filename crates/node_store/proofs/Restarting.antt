@@ -1,5 +1,5 @@
 -- What a restarted server is brought back with.
-use Rattle.std.proofs.Common.{◌≡◌, ◌∙◌, sym, ap, subst, refl, ℕ, ◌+◌, ◌<◌, ◌≤◌, length, take, List, [], ◌∷◌, ◌++◌, Bool, true, false, cond, nat_lt, arith, Option, Some, None, unwrap_or, inl, inr, ◌⊎◌}
+use Rattle.std.proofs.Common.{◌≡◌, ◌∙◌, sym, ap, subst, refl, ℕ, ◌+◌, ◌<◌, ◌≤◌, length, take, List, [], ◌∷◌, ◌++◌, Bool, true, false, cond, nat_lt, arith, Option, Some, None, unwrap_or, inl, inr, ◌⊎◌, Result, Ok, Err, IfErr, OnErr, IsErrAnd}
 use Rattle.std.proofs.lemmas.Bool.{le-ltb, lt-ltb}
 use Rattle.std.proofs.lemmas.List.{take_all}
 use Rattle.mds_base.specs.declared.setup.Setup.{Setup}
@@ -8,7 +8,9 @@ use Rattle.mds_base.specs.declared.store_fault.StoreFault.{StoreFault}
 use Rattle.mds_base.specs.declared.store_fault.StoreFault.TheVariants as faults
 use Rattle.records.specs.declared.record.Record.{Record}
 use Rattle.records.specs.Spelling.{IsHead, record_spelling}
-use Rattle.gate_log.specs.Calls.{StaysTold}
+use Rattle.gate_log.specs.declared.gate_log.LogFault.{LogFault}
+use Rattle.gate_log.specs.declared.gate_log.LogFault.TheVariants as log_faults
+use Rattle.gate_log.specs.Calls.{StaysTold, IsOpenAnswer}
 use Rattle.gate_log.specs.Log.{HoldsLog, IsCutShort, log_length}
 use Rattle.gate_log.specs.LogState.{LogState, IsLogOf, IsReady}
 use Rattle.gate_log.specs.LogState as logs
@@ -19,13 +21,23 @@ use Rattle.mds_out.specs.Known.{OnTold}
 use Rattle.node_core.specs.Nodes.{StoreV}
 use Rattle.node_core.specs.Serving.{replayed_all}
 use Rattle.node_store.specs.Damage.{IsDamaged}
-use Rattle.node_store.specs.Reading.{IsRefusal}
+use Rattle.node_store.specs.Reading.{IsRefusal, IsBad, store_fault_of}
 use Rattle.node_store.specs.Serve.{IsAllOrNone}
 use Rattle.node_store.specs.Stands.{StandFor, StandsForNone, IsBody, all_follow, head_of}
 use Rattle.node_store.specs.Store.{Store, HoldsStore, IsKept, HasDoubt, LeavesDoubt, IsDownAt}
 use Rattle.node_store.proofs.OpeningLaws.{stand_once, not_damaged}
 use Rattle.node_store.proofs.ReadingLogs.{refused_more}
 use Rattle.node_store.proofs.Standing.{stand_more}
+
+-- ---- what the exit of a `?` returns
+
+pub err_at : {T E : Type 0} (r : Result T E) (e : E) (P : E → Type 0) → IsErrAnd r (λ x. x ≡ e) → P e → IfErr r P
+err_at (Ok x) e P is p = tt
+err_at (Err x) e P is p = subst P (sym is) p
+
+pub on_err : {T E : Type 0} (r : Result T E) (P : Type 0) → P → OnErr r P
+on_err (Ok x) P p = tt
+on_err (Err e) P p = p
 
 -- ---- what a disk tells is what some image has
 
@@ -114,6 +126,10 @@ module _ (server : ℕ) (setup : Setup) (log : LogState) (store : StoreV) (doubt
   not_bad told told' images faults.Room stays left owed is = is
   not_bad told told' images faults.OutOfMemory stays left owed is = is
 
+pub some_of : (told : Option (List ℕ)) (new other store : StoreV) → other ≡ new → OnTold told (λ _. new ≡ store) → OnTold told (λ _. Some other ≡ Some store)
+some_of None new other store same is = tt
+some_of (Some bytes) new other store same is = ap (λ (s : StoreV). Some s) (same ∙ is)
+
 -- ---- logs that stand for no store
 
 no_body : (bodies : List (List ℕ)) → log_length bodies ≤ 1 → bodies ≡ []
@@ -135,3 +151,13 @@ cut_short (Some bytes) server setup place short = λ bodies store holds stands. 
 
 pub bad_stands_not : (server : ℕ) (setup : Setup) (place : ℕ) (damage : Damage) (bytes : List ℕ) → IsHead 1 setup.servers server setup.threshold → IsDamaged server setup bytes place damage → StandsForNone server setup bytes
 bad_stands_not server setup place damage bytes head bad bodies store holds stands = not_damaged server setup bytes store place damage head (inr (bodies, holds, stands)) bad
+
+pub log_refused : (told told' : Option (List ℕ)) → told' ≡ told → (server : ℕ) (setup : Setup) (fault : LogFault) → IsOpenAnswer {T = LogState} told (Err fault) → IsRefusal (λ _ _. StandsForNone server setup) told' (store_fault_of fault)
+log_refused told told' same server setup log_faults.Device answer = tt
+log_refused told told' same server setup log_faults.Stopped answer = answer
+log_refused told told' same server setup (log_faults.BadLog place) answer = (refl, subst (λ (t : Option (List ℕ)). OnTold t (StandsForNone server setup)) (sym same) (cut_short told server setup place answer))
+log_refused told told' same server setup log_faults.OutOfMemory answer = tt
+
+pub read_refused : (told told' : Option (List ℕ)) → told' ≡ told → (server : ℕ) (setup : Setup) (fault : StoreFault) → IsHead 1 setup.servers server setup.threshold → IsRefusal (IsBad server setup) told fault → IsRefusal (λ _ _. StandsForNone server setup) told' fault
+read_refused told told' same server setup fault head is =
+    subst (λ (t : Option (List ℕ)). IsRefusal (λ _ _. StandsForNone server setup) t fault) (sym same) (refused_more (IsBad server setup) (λ _ _. StandsForNone server setup) told fault (λ place damage bytes bad. bad_stands_not server setup place damage bytes head bad) is)
