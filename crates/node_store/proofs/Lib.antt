@@ -3,3 +3,4 @@ pub mod ReadingRecords
 pub mod ReadingLogs
 pub mod ReadingNodes
 pub mod OpeningLaws
+pub mod OpeningMoments

@@ -2,6 +2,7 @@
 #![tactic(auto)]
 
 mod laws;
+mod opening;
 mod reading;
 
 pub use laws::laws_of_disks;
