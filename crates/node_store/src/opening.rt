@@ -15,15 +15,13 @@ ghost use Rattle.node_store.specs.Stands.{FileStandsFor, opened_store};
 ghost use Rattle.node_store.specs.Store.{IsKept, KeepsAny, StandsForAny, StandsForEither};
 
 use crate::reading::{read_log, store_fault};
+use crate::serve::LONGEST;
 use gate_log::{GateLog, Piece};
 use mds_base::{MapRows, Setup, StoreFault};
 use mds_out::{Disk, DiskFault};
 use node_core::Node;
 use records::{Record, write};
 use std::alloc::{AllocError, Global};
-
-/// A log is no longer than this before an append.
-const LONGEST: u64 = 1 << 62;
 
 /// Opens the disk of a server for a new run: its log is made where file 1 has fewer than two bytes, and read else; then
 /// the run's beginning is appended, and the node keeps no session.
@@ -91,7 +89,8 @@ fn synced_length<D: Disk>(disk: &mut D) -> Result<u64, StoreFault>
     }
 }
 
-fn disk_fault(fault: DiskFault) -> StoreFault
+/// What a store answers where its disk refused a call.
+pub(crate) fn disk_fault(fault: DiskFault) -> StoreFault
     ensures { IsDiskFault fault result }
 {
     match fault {
