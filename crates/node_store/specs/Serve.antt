@@ -1,52 +1,62 @@
--- What serving one message does.
-use Rattle.std.specs.Prelude.{◌≡◌, ℕ, ◌+◌, ◌*◌, ◌^◌, ◌≤◌, List, [], ◌∷◌, Option, Some, Result, OnOk, IsErrOf}
+-- What the calls of a server on a disk take and answer.
+use Rattle.std.specs.Prelude.{◌≡◌, ℕ, ◌+◌, ◌<◌, ◌≤◌, ◌^◌, List, [], ◌∷◌, take, length, Option, Some, None, Result, OnOk, IsErrOf, ◌⊎◌}
 use Rattle.mds_base.specs.declared.ask.Ask.{Ask}
 use Rattle.mds_base.specs.declared.call.Call.{Call}
-use Rattle.mds_base.specs.declared.call.Call.TheVariants.{Lookup}
-use Rattle.mds_base.specs.declared.cursor.Cursor.{Cursor}
-use Rattle.mds_base.specs.declared.reply.Reply.{Reply}
-use Rattle.mds_base.specs.declared.reply.Reply.TheVariants.{Said}
+use Rattle.mds_base.specs.declared.call.Call.TheVariants.{Create, Mkdir, Remove, Lookup, Setattr, Scan, Grab, Load, Link}
 use Rattle.mds_base.specs.declared.store_fault.StoreFault.{StoreFault}
 use Rattle.mds_base.specs.declared.store_fault.StoreFault.TheVariants.{Device}
-use Rattle.records.specs.declared.record.Record.{Record}
+use Rattle.records.specs.declared.handled.Handled.{Handled}
 use Rattle.records.specs.declared.msg.Msg.{Msg}
 use Rattle.records.specs.declared.msg.Msg.TheVariants.{Request}
-use Rattle.records.specs.declared.handled.Handled.{Handled}
+use Rattle.records.specs.declared.record.Record.{Record}
+use Rattle.records.specs.Spelling.{IsDirectory, IsChange}
+use Rattle.mds_out.specs.Disk.{Image, Contents}
 use Rattle.mds_out.specs.Fault.{Rose}
-use Rattle.node_store.specs.Node.{NodeState, entry, said_at, node_after}
-use Rattle.node_store.specs.Store.{IsAsked, record_of, answer_of, found_of}
+use Rattle.node_core.specs.Nodes.{StoreV}
+use Rattle.node_core.specs.Serving.{ServedV}
+use Rattle.node_store.specs.Store.{Store, IsDownAt}
 
--- a lookup is answered by what stands at its name, and a change by its final
-abbrev pub reply_to : Call → NodeState → Reply
-reply_to (Lookup dir name) node = found_of (entry node (Lookup dir name))
-reply_to call node = Said (said_at node call)
+-- a call that is well made
+abbrev pub IsWellMade : Call → Type 0
+IsWellMade (Lookup dir name) = IsDirectory dir
+IsWellMade (Scan dir) = IsDirectory dir
+IsWellMade (Grab dir name count) = IsDirectory dir
+IsWellMade (Load dir rows) = IsDirectory dir
+IsWellMade (Link dir name id) = IsDirectory dir
+IsWellMade call = IsChange call
 
--- a change is recorded, and a lookup is not
-abbrev pub records_of : Call → NodeState → Ask → List Record
-records_of (Lookup dir name) node ask = []
-records_of call node ask = record_of ask (said_at node call) ∷ []
+-- an ask of a client that is well made
+pub record IsAsked (ask : Ask) : Type 0 where
+  pub some_client : 1 ≤ ask.client
+  pub few_clients : ask.client ≤ 64
+  pub from_one : 1 ≤ ask.seq
+  pub fits : ask.seq < 2 ^ 64
+  pub made : IsWellMade ask.call
 
--- the node after a call
-abbrev pub node_with : Call → NodeState → NodeState
-node_with (Lookup dir name) node = node
-node_with call node = node_after node call (said_at node call)
+-- a message that is well made
+abbrev pub IsMessage : Msg → Type 0
+IsMessage (Request server ask cursor) = IsAsked ask
+IsMessage msg = Unit {0}
 
--- one request, of an ask that is well made
-pub record IsOneRequest (msgs : List Msg) (ask : Ask) : Type 0 where
-  pub server : ℕ
-  pub cursor : Option Cursor
-  pub is : msgs ≡ Request server ask cursor ∷ []
-  pub asked : IsAsked ask
+-- the one message of a batch
+pub record IsOneMessage (msgs : List Msg) (msg : Msg) : Type 0 where
+  pub one : msgs ≡ msg ∷ []
+  pub made : IsMessage msg
 
--- the step of a node that serves an ask
-pub record Serves (old : NodeState) (ask : Ask) (handled : Handled) (up : Option NodeState) : Type 0 where
-  pub after : up ≡ Some (node_with ask.call old)
-  pub records : handled.records ≡ records_of ask.call old ask
-  pub outputs : handled.outputs ≡ answer_of ask (reply_to ask.call old) ∷ []
+-- what serving gave is what the specification says, and the server is up with it
+pub record HasServed (served : ServedV) (up : Option StoreV) (handled : Handled) : Type 0 where
+  pub up' : up ≡ Some served.store
+  pub records : handled.records ≡ served.records
+  pub outputs : handled.outputs ≡ served.outputs
 
--- at least 2 ^ 18 directory numbers are left to the server
-abbrev pub HasRoom : ℕ → NodeState → Type 0
-HasRoom server node = node.next + 2 ^ 18 ≤ (server + 1) * 2 ^ 40
+-- a server that was up at this store went down, and these records are in doubt
+pub record HasStopped {D : Type 0} (seen : D → Contents) (images : D → Image → Type 0) (s : Store D) (store : StoreV) (records : List Record) : Type 0 where
+  pub doubt : s.doubt ≡ records
+  pub at : IsDownAt seen images s store
+
+-- all the records in doubt were kept, or none
+abbrev pub IsAllOrNone : ℕ → ℕ → Type 0
+IsAllOrNone kept doubt = (kept ≡ 0) ⊎ (kept ≡ doubt)
 
 -- a store's count of faults never falls, rises where Device is answered, and stays where the call succeeds
 pub record HasStoreCause {T : Type 0} (before now : ℕ) (result : Result T StoreFault) : Type 0 where

@@ -1,23 +1,23 @@
 -- What a disk stands for.
-use Rattle.std.specs.Prelude.{◌≡◌, ℕ, ◌<◌, List, [], ◌∷◌, ◌++◌, length, ◌⊎◌}
+use Rattle.std.specs.Prelude.{◌≡◌, ℕ, ◌<◌, ◌&&◌, Bool, true, List, [], ◌∷◌, ◌++◌, length, ◌⊎◌}
 use Rattle.std.specs.List.{AllByRecursion, flat_map}
+use Rattle.std.specs.FinMap as map
 use Rattle.mds_base.specs.declared.setup.Setup.{Setup}
 use Rattle.records.specs.declared.record.Record.{Record}
-use Rattle.records.specs.declared.record.Record.TheVariants.{Head, Opened, Served}
+use Rattle.records.specs.declared.record.Record.TheVariants.{Head, Opened}
 use Rattle.records.specs.Spelling.{IsRecord, record_spelling}
 use Rattle.gate_log.specs.Log.{HoldsLog}
-use Rattle.node_store.specs.Node.{NodeState, said_at, node_after, new_node}
+use Rattle.node_core.specs.Nodes.{StoreV, new_node}
+use Rattle.node_core.specs.Serving.{may_follow, replayed, replayed_all}
 
--- the record may follow at the node, and makes it the new one
-abbrev pub Follows : NodeState → Record → NodeState → Type 0
-Follows node (Head format servers server threshold) new = ⊥
-Follows node Opened new = new ≡ node
-Follows node (Served client seq part call said) new = (part ≡ 0) × (said ≡ said_at node call) × (new ≡ node_after node call said)
+-- a server on which nothing was noted yet, with its rows
+abbrev pub new_store : ℕ → Setup → StoreV
+new_store server setup = record { node = new_node server setup; rows = map.empty }
 
--- the records lead from one node to the other
-abbrev pub Leads : NodeState → List Record → NodeState → Type 0
-Leads old [] new = new ≡ old
-Leads old (item ∷ more) new = (mid : NodeState) × Follows old item mid × Leads mid more new
+-- each record may follow where those before it lead
+abbrev pub all_follow : StoreV → List Record → Bool
+all_follow store [] = true
+all_follow store (item ∷ items) = may_follow store item && all_follow (replayed store item) items
 
 -- the records of a body, one or more
 pub record IsBody (body : List ℕ) (items : List Record) : Type 0 where
@@ -39,18 +39,28 @@ all_of (items ∷ more) = items ++ all_of more
 abbrev pub head_of : ℕ → Setup → Record
 head_of server setup = Head 1 setup.servers server setup.threshold
 
--- Bodies stand for a node: the first one is the head of this server, and the records of the others lead from the new node to it.
-pub record StandFor (server : ℕ) (setup : Setup) (bodies : List (List ℕ)) (node : NodeState) : Type 0 where
+-- Bodies stand for a store: the first one is the head of this server, and the records of the others lead from the new
+-- store to it.
+pub record StandFor (server : ℕ) (setup : Setup) (bodies : List (List ℕ)) (store : StoreV) : Type 0 where
   pub rest : List (List ℕ)
   pub items : List (List Record)
   pub head : bodies ≡ record_spelling (head_of server setup) ∷ rest
   pub are : AreBodies rest items
-  pub leads : Leads (new_node server) (all_of items) node
+  pub follow : all_follow (new_store server setup) (all_of items) ≡ true
+  pub leads : store ≡ replayed_all (new_store server setup) (all_of items)
 
 -- a file that is new: it has fewer than two bytes, or its first gate is closed
 abbrev pub IsNewFile : List ℕ → Type 0
 IsNewFile file = (length file < 2) ⊎ HoldsLog [] file
 
--- The file stands for a node: it is new, and so is the node, or its log's bodies stand for it.
-abbrev pub FileStandsFor : ℕ → Setup → List ℕ → NodeState → Type 0
-FileStandsFor server setup file node = (IsNewFile file × (node ≡ new_node server)) ⊎ ((bodies : List (List ℕ)) × HoldsLog bodies file × StandFor server setup bodies node)
+-- The file stands for a store: it is new, and so is the store, or its log's bodies stand for it.
+abbrev pub FileStandsFor : ℕ → Setup → List ℕ → StoreV → Type 0
+FileStandsFor server setup file store = (IsNewFile file × (store ≡ new_store server setup)) ⊎ ((bodies : List (List ℕ)) × HoldsLog bodies file × StandFor server setup bodies store)
+
+-- the file's log stands for no store
+abbrev pub StandsForNone : ℕ → Setup → List ℕ → Type 0
+StandsForNone server setup file = (bodies : List (List ℕ)) → (store : StoreV) → HoldsLog bodies file → StandFor server setup bodies store → ⊥
+
+-- a store once its server was opened for a new run
+abbrev pub opened_store : StoreV → StoreV
+opened_store store = replayed store Opened

@@ -1,76 +1,78 @@
--- A server on a disk, and what its calls answer.
-use Rattle.std.specs.Prelude.{◌≡◌, ℕ, ◌^◌, ◌<◌, ◌≤◌, List, false, Option, Some, None, ◌⊎◌}
-use Rattle.mds_base.specs.declared.ask.Ask.{Ask}
-use Rattle.mds_base.specs.declared.call.Call.{Call}
-use Rattle.mds_base.specs.declared.call.Call.TheVariants.{Lookup}
-use Rattle.mds_base.specs.declared.reply.Final.{Final}
-use Rattle.mds_base.specs.declared.reply.Final.TheVariants.{Missing}
-use Rattle.mds_base.specs.declared.reply.Reply.{Reply}
-use Rattle.mds_base.specs.declared.reply.Reply.TheVariants.{Said, Found}
-use Rattle.mds_base.specs.declared.attr.Attr.{Attr}
+-- A server on a disk.
+use Rattle.std.specs.Prelude.{◌≡◌, ℕ, List, [], ◌∷◌, ◌++◌, map, Bool, true, false, Option, Some, None, ◌⊎◌}
 use Rattle.mds_base.specs.declared.setup.Setup.{Setup}
 use Rattle.records.specs.declared.record.Record.{Record}
-use Rattle.records.specs.declared.record.Record.TheVariants.{Served}
-use Rattle.records.specs.declared.msg.Msg.{Msg}
-use Rattle.records.specs.declared.msg.Msg.TheVariants.{Answer}
-use Rattle.records.specs.Spelling.{IsChange}
+use Rattle.gate_log.specs.Log.{HoldsLog, log_length}
 use Rattle.gate_log.specs.LogState.{LogState, IsReady, IsLogOf}
-use Rattle.mds_out.specs.Disk.{Image, Contents, Lengths}
+use Rattle.mds_out.specs.Disk.{Image, Contents, Lengths, LeavesOnly}
 use Rattle.mds_out.specs.Known.{OnTold}
-use Rattle.node_store.specs.Node.{NodeState}
-use Rattle.node_store.specs.Stands.{StandFor, FileStandsFor}
+use Rattle.node_core.specs.Nodes.{StoreV}
+use Rattle.node_core.specs.Serving.{replayed_all}
+use Rattle.node_store.specs.Stands.{StandFor, FileStandsFor, IsBody, all_follow, opened_store}
 
--- the disk, whose server it is, its log, and its node where it is up
+-- the disk, whose server it is, its log, its node and rows where it is up, and its records in doubt
 pub record Store (D : Type 0) : Type 0 where
   pub disk : D
   pub server : ℕ
   pub setup : Setup
   pub log : LogState
-  pub up : Option NodeState
+  pub up : Option StoreV
+  pub doubt : List Record
 
--- the bytes hold the log, whose bodies stand for the node
-pub record HoldsNode (server : ℕ) (setup : Setup) (log : LogState) (node : NodeState) (bytes : List ℕ) : Type 0 where
+-- the bytes hold the log, whose bodies stand for the store
+pub record HoldsStore (server : ℕ) (setup : Setup) (log : LogState) (store : StoreV) (bytes : List ℕ) : Type 0 where
   pub bodies : List (List ℕ)
   pub is : IsLogOf log bodies bytes
-  pub stands : StandFor server setup bodies node
+  pub stands : StandFor server setup bodies store
 
 -- what the disk owes a server that is up
-pub record IsKept (seen : Contents) (sizes : Lengths) (images : Image → Type 0) (server : ℕ) (setup : Setup) (log : LogState) (node : NodeState) : Type 0 where
+pub record IsKept (seen : Contents) (sizes : Lengths) (images : Image → Type 0) (server : ℕ) (setup : Setup) (log : LogState) (store : StoreV) : Type 0 where
   pub file : log.file ≡ 1
   pub running : log.stopped ≡ false
   pub ready : IsReady log seen sizes images
-  pub holds : OnTold (seen 1) (HoldsNode server setup log node)
+  pub holds : OnTold (seen 1) (HoldsStore server setup log store)
 
--- each image of the disk stands for the node
-abbrev pub KeepsNode : (Image → Type 0) → ℕ → Setup → NodeState → Type 0
-KeepsNode images server setup node = (image : Image) → images image → FileStandsFor server setup (image 1) node
+-- the file holds these bodies, or these and one more with the records in doubt
+abbrev pub HasDoubt : List (List ℕ) → List Record → List ℕ → Type 0
+HasDoubt bodies doubt file = HoldsLog bodies file ⊎ ((body : List ℕ) × IsBody body doubt × HoldsLog (bodies ++ body ∷ []) file)
 
--- an image stands for the one node or for the other
-abbrev pub StandsForEither : ℕ → Setup → NodeState → NodeState → Image → Type 0
+-- bodies that stand for the store, and a log of just their length; the records in doubt may follow, and each image has
+-- the bodies without them or with them
+pub record LeavesDoubt (images : Image → Type 0) (server : ℕ) (setup : Setup) (log : LogState) (store : StoreV) (doubt : List Record) : Type 0 where
+  pub bodies : List (List ℕ)
+  pub stands : StandFor server setup bodies store
+  pub ends : log.length ≡ log_length bodies
+  pub follow : all_follow store doubt ≡ true
+  pub each : (image : Image) → images image → HasDoubt bodies doubt (image 1)
+
+-- what the disk owes a server that is down: its store, the records in doubt left out
+pub record IsDownAt {D : Type 0} (seen : D → Contents) (images : D → Image → Type 0) (s : Store D) (store : StoreV) : Type 0 where
+  pub down : s.up ≡ None
+  pub told : OnTold (seen s.disk 1) (λ _. LeavesDoubt (images s.disk) s.server s.setup s.log store s.doubt)
+
+-- each image of the disk stands for the store
+abbrev pub KeepsStore : (Image → Type 0) → ℕ → Setup → StoreV → Type 0
+KeepsStore images server setup store = (image : Image) → images image → FileStandsFor server setup (image 1) store
+
+-- an image stands for the one store or for the other
+abbrev pub StandsForEither : ℕ → Setup → StoreV → StoreV → Image → Type 0
 StandsForEither server setup old new image = FileStandsFor server setup (image 1) old ⊎ FileStandsFor server setup (image 1) new
 
--- a lookup of a name, or a change
-abbrev pub IsWellMade : Call → Type 0
-IsWellMade (Lookup dir name) = Unit {0}
-IsWellMade call = IsChange call
+-- each image of the disk stands for the store, or for it with all its records in doubt
+abbrev pub KeepsInDoubt : (Image → Type 0) → ℕ → Setup → StoreV → List Record → Type 0
+KeepsInDoubt images server setup store doubt = (image : Image) → images image → StandsForEither server setup store (replayed_all store doubt) image
 
--- an ask of a client that is well made
-pub record IsAsked (ask : Ask) : Type 0 where
-  pub some_client : 1 ≤ ask.client
-  pub few_clients : ask.client ≤ 64
-  pub from_one : 1 ≤ ask.seq
-  pub fits : ask.seq < 2 ^ 64
-  pub made : IsWellMade ask.call
+-- the file stands for one of the stores
+abbrev pub StandsForAny : ℕ → Setup → List StoreV → List ℕ → Type 0
+StandsForAny server setup [] file = ⊥
+StandsForAny server setup (store ∷ stores) file = FileStandsFor server setup file store ⊎ StandsForAny server setup stores file
 
--- the record of a change
-abbrev pub record_of : Ask → Final → Record
-record_of ask said = Served ask.client ask.seq 0 ask.call said
+-- each image of the disk stands for one of the stores
+abbrev pub KeepsAny : (Image → Type 0) → ℕ → Setup → List StoreV → Type 0
+KeepsAny images server setup stores = (image : Image) → images image → StandsForAny server setup stores (image 1)
 
--- the message that answers an ask
-abbrev pub answer_of : Ask → Reply → Msg
-answer_of ask reply = Answer ask.client ask.seq ask.attempt reply
-
--- what a lookup is told
-abbrev pub found_of : Option Attr → Reply
-found_of None = Said Missing
-found_of (Some attr) = Found attr 0
+-- Where the file was told: whichever stores each image stood for one of before, a crash at any moment since leaves an
+-- image that stands for one of them, or for one of them opened.
+abbrev pub LeavesOpened : {D : Type 0} → (D → ℕ) → (D → ℕ → Image → Type 0) → Contents → (Image → Type 0) → ℕ → Setup → D → D → Type 0
+LeavesOpened moment since seen images server setup old new =
+    OnTold (seen 1) (λ _. (stores : List StoreV) → KeepsAny images server setup stores → LeavesOnly moment since old new (λ image. StandsForAny server setup (stores ++ map opened_store stores) (image 1)))
