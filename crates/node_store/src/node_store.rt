@@ -1,0 +1,177 @@
+ghost use Rattle.std.specs.Prelude.{◌≡◌, ◌^◌, ◌<◌, ℕ, ◌⊎◌, [], None, Some, true, IfOk, IfErr, OnOk, OnErr, IsErrOf, IsTrue, ◌↔◌};
+ghost use Rattle.mds_base.specs.declared.store_fault.StoreFault.TheVariants as StoreFault;
+ghost use Rattle.records.specs.declared.msg.Msg.{Msg};
+ghost use Rattle.gate_log.specs.Calls.{StaysTold};
+ghost use Rattle.mds_out.specs.Known.{OnTold};
+ghost use Rattle.mds_out.specs.Disk.{LeavesOnly};
+ghost use Rattle.node_core.specs.Nodes.{StoreV, has_numbers};
+ghost use Rattle.node_core.specs.Serving.{serve};
+ghost use Rattle.node_store.specs.Refused.{IsServeFault};
+ghost use Rattle.node_store.specs.Serve.{IsMessage, IsOneMessage, HasServed, HasStopped, HasStoreCause};
+ghost use Rattle.node_store.specs.Store.{KeepsStore, StandsForEither, IsDownAt};
+
+use crate::reading::store_fault;
+use crate::serve::{Refusal, serve_on};
+use gate_log::GateLog;
+use mds_base::{MapRows, Setup, StoreFault};
+use mds_out::Disk;
+use node_core::Node;
+use records::{Handled, Msg, RecordList};
+use std::alloc::Global;
+use std::marker::Model;
+
+/// A server on a disk.
+#[derive(Drop)]
+pub struct NodeStore<D: Disk> {
+    pub(crate) disk: D,
+    pub(crate) server: u32,
+    pub(crate) setup: Setup,
+    pub(crate) log: GateLog,
+    pub(crate) node: Node,
+    pub(crate) rows: MapRows,
+    pub(crate) down: bool,
+    pub(crate) doubt: RecordList,
+}
+
+impl<D: Disk> Model for NodeStore<D> {
+    ghost use Rattle.std.specs.Prelude.{◌≡◌, ◌<◌, ◌^◌, false, None, Some, length, if◌then◌else◌};
+    ghost use Rattle.std.specs.FinMap as map;
+    ghost use Rattle.std.specs.Coded.{codes};
+    ghost use Rattle.mds_base.specs.Entries.{coded_attr};
+    ghost use Rattle.mds_base.specs.RowKeys.{coded_row_key};
+    ghost use Rattle.node_store.specs.Parts.{IsServer, IsUp};
+    ghost use Rattle.node_store.specs.Store.{Store};
+
+    ghost Value = { Store D };
+
+    ghost coded = { Prim.hlevel (codes, map.code, coded_row_key, coded_attr) };
+
+    ghost view = { λ s. record { disk = s.disk; server = s.server; setup = s.setup; log = s.log; up = (if s.down then None else Some (record { node = s.node; rows = s.rows })); doubt = s.doubt } };
+
+    ghost invariant = { λ s. IsServer s.server s.setup × (length s.doubt < 2 ^ 32)
+        × (s.down ≡ false → IsUp (D.seen s.disk) (D.sizes s.disk) (D.images s.disk) s.server s.setup s.log (record { node = s.node; rows = s.rows }) s.doubt) };
+}
+
+/// The disk of a server that could not be brought up, and why.
+#[derive(Drop)]
+pub struct Refused<D: Disk> {
+    pub disk: D,
+    pub fault: StoreFault,
+}
+
+impl<D: Disk> NodeStore<D> {
+    /// Whether the server is down.
+    pub fn is_down(&self) -> bool
+        ensures { IsTrue result ↔ (self.now.up ≡ None) }
+    {
+        self.down
+    }
+
+    /// The records in doubt: those of the Serve that stopped the server. There are none where it is up.
+    pub fn doubt(&self) -> &RecordList
+        ensures { result.now ≡ self.now.doubt }
+    {
+        &self.doubt
+    }
+
+    /// The next directory number of a server that is up.
+    pub fn next_id(&self) -> u64
+        requires { (store : StoreV) × (self.now.up ≡ Some store) }
+        ensures { (store : StoreV) → self.now.up ≡ Some store → result ≡ store.node.next }
+    {
+        self.node.next_id()
+    }
+
+    /// The disk. That of a server that is up keeps its store.
+    pub fn into_disk(self) -> D
+        ensures disk { result ≡ self.disk }
+        ensures kept { (store : StoreV) → self.up ≡ Some store → OnTold (D.seen result 1) (λ _. KeepsStore (D.images result) self.server self.setup store) }
+    {
+        let NodeStore { disk, .. } = self;
+        disk
+    }
+
+    /// Stops a server that is up, with no record in doubt. Nothing is done to its disk.
+    pub fn halt(&mut self)
+        requires { (store : StoreV) × (self.old.up ≡ Some store) }
+        ensures stopped { self.new ≡ record self.old { up = None } }
+        ensures sure { self.new.doubt ≡ [] }
+        ensures at { (store : StoreV) → self.old.up ≡ Some store → IsDownAt D.seen D.images self.new store }
+    {
+        self.down = true;
+    }
+
+    fn serve(&mut self, alloc: Global, msg: &Msg, now: u64) -> Result<Handled, StoreFault>
+        requires up { (store : StoreV) × (self.old.up ≡ Some store) × (has_numbers store.node ≡ true) }
+        requires made { IsMessage msg.now }
+        requires moment { now < 2 ^ 43 }
+        ensures served { IfOk result (λ handled. (store : StoreV) → self.old.up ≡ Some store → HasServed (serve store msg.now now) self.new.up handled) }
+        ensures sure { OnOk result (self.new.doubt ≡ []) }
+        ensures keeps { OnOk result ((store : StoreV) → self.new.up ≡ Some store → OnTold (D.seen self.new.disk 1) (λ _. KeepsStore (D.images self.new.disk) self.new.server self.new.setup store)) }
+        ensures any_moment { (store : StoreV) → self.old.up ≡ Some store
+            → OnTold (D.seen self.old.disk 1) (λ _. LeavesOnly D.moment D.images_since self.old.disk self.new.disk (StandsForEither self.old.server self.old.setup store (serve store msg.now now).store)) }
+        ensures refused { OnErr result ((store : StoreV) → self.old.up ≡ Some store → (self.new ≡ self.old) ⊎ HasStopped D.seen D.images self.new store (serve store msg.now now).records) }
+        ensures down { IsErrOf result StoreFault.Device → self.new.up ≡ None }
+        ensures fault { IfErr result IsServeFault }
+        ensures same { (self.new.server ≡ self.old.server) × (self.new.setup ≡ self.old.setup) }
+        ensures told { StaysTold (D.seen self.old.disk 1) (D.seen self.new.disk 1) }
+        ensures cause { HasStoreCause (D.faults self.old.disk) (D.faults self.new.disk) result }
+    {
+        match serve_on(
+            alloc,
+            msg,
+            now,
+            &mut self.disk,
+            &mut self.log,
+            &mut self.node,
+            &mut self.rows,
+        ) {
+            Ok(handled) => Ok(handled),
+            Err(Refusal::Memory) => Err(StoreFault::OutOfMemory),
+            Err(Refusal::Disk(fault, doubt)) => {
+                self.down = true;
+                self.doubt = doubt;
+                Err(store_fault(fault))
+            }
+        }
+    }
+
+    /// Serves one message; its changes are one body of records and one append. It takes its memory first.
+    ///
+    /// After `Device`, or a disk's want of memory, the server is down and the records are in doubt; after its own want
+    /// of memory nothing has changed. The room is not counted yet.
+    pub fn serve_batch(
+        &mut self,
+        alloc: Global,
+        msgs: &[Msg],
+        now: u64,
+        room: u64,
+    ) -> Result<Handled, StoreFault>
+        requires up { (store : StoreV) × (self.old.up ≡ Some store) × (has_numbers store.node ≡ true) }
+        requires one { (msg : Msg) × IsOneMessage msgs.now msg }
+        requires moment { now < 2 ^ 43 }
+        ensures served { IfOk result (λ handled. (msg : Msg) → (store : StoreV) → IsOneMessage msgs.now msg → self.old.up ≡ Some store → HasServed (serve store msg now) self.new.up handled) }
+        ensures sure { OnOk result (self.new.doubt ≡ []) }
+
+        // After Ok the disk keeps the new store.
+        ensures keeps { OnOk result ((store : StoreV) → self.new.up ≡ Some store → OnTold (D.seen self.new.disk 1) (λ _. KeepsStore (D.images self.new.disk) self.new.server self.new.setup store)) }
+
+        // A crash at any moment of the call leaves the old store, or the one with the records.
+        ensures any_moment { (msg : Msg) → (store : StoreV) → IsOneMessage msgs.now msg → self.old.up ≡ Some store
+            → OnTold (D.seen self.old.disk 1) (λ _. LeavesOnly D.moment D.images_since self.old.disk self.new.disk (StandsForEither self.old.server self.old.setup store (serve store msg now).store)) }
+
+        // A refusal leaves all as it was, or the server down with the records in doubt.
+        ensures refused { OnErr result ((msg : Msg) → (store : StoreV) → IsOneMessage msgs.now msg → self.old.up ≡ Some store → (self.new ≡ self.old) ⊎ HasStopped D.seen D.images self.new store (serve store msg now).records) }
+        ensures down { IsErrOf result StoreFault.Device → self.new.up ≡ None }
+        ensures fault { IfErr result IsServeFault }
+        ensures same { (self.new.server ≡ self.old.server) × (self.new.setup ≡ self.old.setup) }
+        ensures told { StaysTold (D.seen self.old.disk 1) (D.seen self.new.disk 1) }
+        ensures cause { HasStoreCause (D.faults self.old.disk) (D.faults self.new.disk) result }
+    {
+        let _room = room;
+        match msgs {
+            [msg] => self.serve(alloc, msg, now),
+            _ => unreachable!(),
+        }
+    }
+}
