@@ -14,8 +14,7 @@ ghost use Rattle.node_store.specs.Stands.{StandsForNone};
 ghost use Rattle.node_store.specs.Store.{IsKept, IsDownAt, KeepsStore};
 
 use crate::NodeStore;
-use crate::opening::disk_fault;
-use crate::reading::{read_log, store_fault};
+use crate::reading::{disk_fault, read_log, store_fault};
 use gate_log::GateLog;
 use mds_base::{Damage, MapRows, Setup, StoreFault};
 use mds_out::Disk;
