@@ -30,11 +30,13 @@ fn opened<D: Disk + Drop>(alloc: Global, disk: D) -> Result<NodeStore<D>, StoreF
     }
 }
 
-// Whether a server that is up has the directory numbers that a message may want.
-fn may_serve<D: Disk>(store: &NodeStore<D>) -> bool
-    requires { (up : StoreV) × (store.now.up ≡ Some up) }
-    ensures { result ≡ true → (up : StoreV) → store.now.up ≡ Some up → has_numbers up.node ≡ true }
+// Whether a server is up, with the directory numbers that a message may want.
+fn is_ready<D: Disk>(store: &NodeStore<D>) -> bool
+    ensures { result ≡ true → (up : StoreV) × (store.now.up ≡ Some up) × (has_numbers up.node ≡ true) }
 {
+    if store.is_down() {
+        return false;
+    }
     store.next_id() <= 1 << 39
 }
 
@@ -49,8 +51,7 @@ fn reply_to<D: Disk>(
     requires from_one { 1 ≤ seq }
     requires made { IsWellMade call }
 {
-    assert!(rt; !store.is_down());
-    assert!(rt; may_serve(store));
+    assert!(rt; is_ready(store));
     let ask = Ask {
         client: 1,
         seq,
