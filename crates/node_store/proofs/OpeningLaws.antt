@@ -1,8 +1,8 @@
 -- A file stands for one store at most, and none that stands for a store is damaged.
-use Rattle.std.proofs.Common.{◌≡◌, ◌∙◌, sym, ap, subst, refl, ℕ, ◌+◌, ◌<◌, ◌≤◌, List, [], ◌∷◌, ◌++◌, append_assoc, length, arith, true, inl, inr, ◌⊎◌}
+use Rattle.std.proofs.Common.{◌≡◌, ◌∙◌, sym, ap, subst, refl, ℕ, ◌<◌, List, [], ◌∷◌, ◌++◌, append_assoc, length, arith, true, inl, inr}
 use Rattle.std.specs.List.{AllByRecursion, flat_map}
 use Rattle.std.proofs.lemmas.Bool.{and_parts}
-use Rattle.std.proofs.lemmas.List.{append-nil, length-append}
+use Rattle.std.proofs.lemmas.List.{length-append}
 use Rattle.std.proofs.lemmas.List.Concat.{flat_map-cons}
 use Rattle.mds_base.specs.declared.setup.Setup.{Setup}
 use Rattle.mds_base.specs.declared.store_fault.Head.{Head}
@@ -11,11 +11,11 @@ use Rattle.mds_base.specs.declared.store_fault.Damage.TheVariants as damages
 use Rattle.records.specs.declared.record.Record.{Record}
 use Rattle.records.specs.declared.record.Record.TheVariants as records
 use Rattle.records.specs.Spelling.{IsRecord, IsHead, record_spelling}
-use Rattle.gate_log.specs.Log.{HoldsLog, IsCutShort, log_bytes}
+use Rattle.gate_log.specs.Log.{HoldsLog}
 use Rattle.gate_log.proofs.Unique.{one_log, no_log}
 use Rattle.node_core.specs.Nodes.{StoreV}
 use Rattle.node_core.specs.Serving.{may_follow, replayed, replayed_all}
-use Rattle.node_store.specs.Damage.{NoneFollows, HasFirst, IsHeadless, IsForeign, IsWrongAt, IsDamaged, head_spelling, wanted_head}
+use Rattle.node_store.specs.Damage.{NoneFollows, HasFirst, IsWrongAt, IsDamaged, head_spelling, wanted_head}
 use Rattle.node_store.specs.Stands.{StandFor, FileStandsFor, IsNewFile, IsBody, AreBodies, all_of, all_follow, head_of, new_store}
 use Rattle.node_store.proofs.Standing.{replayed_more}
 use Rattle.node_store.proofs.ReadingRecords.{one_front, some_byte}

@@ -1,25 +1,23 @@
 -- What the calls of an opening leave of file 1 at each moment, and after them.
-use Rattle.std.proofs.Common.{◌≡◌, ◌∙◌, sym, ap, subst, refl, ℕ, ◌+◌, ◌<◌, ◌≤◌, List, [], ◌∷◌, ◌++◌, map, length, arith, false, Option, Some, None, Result, Ok, Err, IfErr, IsErrAnd, inl, inr, ◌⊎◌}
+use Rattle.std.proofs.Common.{◌≡◌, ◌∙◌, sym, subst, refl, ℕ, ◌≤◌, List, [], ◌∷◌, ◌++◌, map, arith, Option, Some, None, Result, Ok, Err, IfErr, IsErrAnd, inl, inr, ◌⊎◌}
 use Rattle.std.proofs.lemmas.List.{append-nil}
 use Rattle.mds_base.specs.RowKeys.{RowMap}
 use Rattle.mds_base.specs.declared.setup.Setup.{Setup}
-use Rattle.mds_base.specs.declared.store_fault.Damage.{Damage}
 use Rattle.mds_base.specs.declared.store_fault.StoreFault.{StoreFault}
 use Rattle.mds_base.specs.declared.store_fault.StoreFault.TheVariants as faults
 use Rattle.mds_out.specs.Disk.{Image, Contents, Lengths, LeavesOnly, Shows}
 use Rattle.mds_out.specs.Known.{OnKnown, OnTold}
 use Rattle.mds_out.proofs.Moments.{leaves_weaker, both}
-use Rattle.records.specs.declared.record.Record.{Record}
 use Rattle.records.specs.declared.record.Record.TheVariants.{Opened}
 use Rattle.records.specs.Spelling.{record_spelling}
 use Rattle.gate_log.specs.Calls.{StaysTold}
-use Rattle.gate_log.specs.Log.{HoldsLog, IsBeforeOrAfter, log_bytes, log_length}
+use Rattle.gate_log.specs.Log.{HoldsLog, IsBeforeOrAfter, log_length}
 use Rattle.gate_log.specs.LogState as logs
 use Rattle.gate_log.specs.LogState.{LogState, IsLogOf, IsReady, HasBodies}
 use Rattle.node_core.specs.Nodes.{NodeV, StoreV}
 use Rattle.node_store.specs.Opening.{StandsLike, StandAlike, IsAsBefore, IsOpenLog}
 use Rattle.node_store.specs.Reading.{IsRefusal, IsBad}
-use Rattle.node_store.specs.Stands.{FileStandsFor, StandFor, IsBody, head_of, new_store, opened_store}
+use Rattle.node_store.specs.Stands.{FileStandsFor, IsBody, head_of, new_store, opened_store}
 use Rattle.node_store.specs.Store.{HoldsStore, IsKept, KeepsAny, StandsForAny, StandsForEither}
 use Rattle.node_store.proofs.OpeningLaws.{one_store}
 use Rattle.node_store.proofs.ReadingLogs.{stand_first}
@@ -66,9 +64,9 @@ module _ (server : ℕ) (setup : Setup) (body : List ℕ) (is : body ≡ record_
       let new_file : new.file ≡ 1 = file ∙ unclosed.file in
       let none = no_body (seen old.file) old images one unclosed.ready.told in
       let here : OnTold (seen' old.file) (HoldsStore server setup new (new_store server setup)) =
-        first_holds (seen old.file) (seen' old.file) old new told none (subst (λ (f : ℕ). (bodies : List (List ℕ)) → OnTold (seen old.file) (IsLogOf old bodies) → OnTold (seen' f) (IsLogOf new (bodies ++ body ∷ []))) file appended) in
+      first_holds (seen old.file) (seen' old.file) old new told none (subst (λ (f : ℕ). (bodies : List (List ℕ)) → OnTold (seen old.file) (IsLogOf old bodies) → OnTold (seen' f) (IsLogOf new (bodies ++ body ∷ []))) file appended) in
       let kept : IsKept seen' sizes' images' server setup new (new_store server setup) =
-        record { file = new_file; running = stopped ∙ unclosed.running; ready = ready; holds = subst (λ (f : ℕ). OnTold (seen' f) (HoldsStore server setup new (new_store server setup))) unclosed.file here } in
+      record { file = new_file; running = stopped ∙ unclosed.running; ready = ready; holds = subst (λ (f : ℕ). OnTold (seen' f) (HoldsStore server setup new (new_store server setup))) unclosed.file here } in
       subst (λ (n : NodeV). at n rows) (sym node_is) (subst (at (new_store server setup).node) (sym rows_is) kept)
 
   first_moment : {D : Type 0} (moment : D → ℕ) (since : D → ℕ → Image → Type 0) (a b : D) (images : Image → Type 0) (seen : Option (List ℕ)) (log : LogState) → OnTold seen (IsLogOf log [])

@@ -1,25 +1,22 @@
 -- A log body by body: for which store the bodies that were read stand, and where they stand for none.
-use Rattle.std.proofs.Common.{◌≡◌, ◌∙◌, sym, ap, subst, refl, ℕ, ◌+◌, ◌<◌, ◌≤◌, List, [], ◌∷◌, ◌++◌, append_assoc, length, arith, true, Option, Some, None, inl, inr, ◌⊎◌}
-use Rattle.std.specs.List.{AllByRecursion, flat_map}
-use Rattle.std.proofs.lemmas.List.{append-nil, length-append}
+use Rattle.std.proofs.Common.{◌≡◌, ◌∙◌, sym, ap, subst, refl, ℕ, ◌+◌, ◌≤◌, List, [], ◌∷◌, ◌++◌, append_assoc, length, arith, true, Option, Some, None, inl, inr}
+use Rattle.std.proofs.lemmas.List.{length-append}
 use Rattle.mds_base.specs.declared.setup.Setup.{Setup}
-use Rattle.mds_base.specs.declared.store_fault.Head.{Head}
 use Rattle.mds_base.specs.declared.store_fault.Damage.{Damage}
 use Rattle.mds_base.specs.declared.store_fault.Damage.TheVariants as damages
 use Rattle.mds_base.specs.declared.store_fault.StoreFault.{StoreFault}
 use Rattle.mds_base.specs.declared.store_fault.StoreFault.TheVariants as faults
 use Rattle.mds_out.specs.Known.{OnTold}
-use Rattle.records.specs.declared.record.Record.{Record}
-use Rattle.records.specs.Spelling.{IsHead, record_spelling}
-use Rattle.gate_log.specs.Log.{HoldsLog, log_bytes, framed}
+use Rattle.records.specs.Spelling.{record_spelling}
+use Rattle.gate_log.specs.Log.{HoldsLog, log_bytes}
 use Rattle.gate_log.specs.LogState.{LogState}
 use Rattle.gate_log.specs.Calls.{HasRead, ReadsOn}
 use Rattle.node_core.specs.Nodes.{StoreV}
 use Rattle.node_core.specs.Serving.{replayed_all}
-use Rattle.node_store.specs.Damage.{NoneFollows, HasFirst, IsHeadless, IsForeign, IsWrongAt, IsDamaged, head_spelling}
-use Rattle.node_store.specs.Stands.{StandFor, IsBody, AreBodies, all_of, all_follow, head_of, new_store}
+use Rattle.node_store.specs.Damage.{NoneFollows, IsWrongAt}
+use Rattle.node_store.specs.Stands.{StandFor, all_of, all_follow, head_of, new_store}
 use Rattle.node_store.specs.Store.{HoldsStore}
-use Rattle.node_store.specs.Reading.{LeadsOn, IsWrongWithin, IsWrongHead, IsBodyRead, IsHeadRead, HasReplayed, ReplaysOn, IsRefusal, IsBad}
+use Rattle.node_store.specs.Reading.{LeadsOn, IsWrongWithin, IsWrongHead, HasReplayed, IsRefusal, IsBad}
 use Rattle.node_store.proofs.Standing.{replayed_more, follow_more, stand_more}
 
 -- ---- bodies that stand for a store

@@ -1,5 +1,5 @@
 -- A node stays that of its server while records are replayed.
-use Rattle.std.proofs.Common.{◌≡◌, sym, subst, refl, ℕ, ◌+◌, ◌≤◌, List, [], ◌∷◌, Bool, true, false, arith, Option, Some, None}
+use Rattle.std.proofs.Common.{sym, subst, refl, ℕ, List, [], ◌∷◌, Bool, true, false, arith}
 use Rattle.mds_base.specs.declared.call.Call.{Call}
 use Rattle.mds_base.specs.declared.setup.Setup.{Setup}
 use Rattle.records.specs.declared.record.Record.{Record}
@@ -8,7 +8,7 @@ use Rattle.node_core.specs.Nodes.{StoreV, noted_in, new_node}
 use Rattle.node_core.specs.Rules.{Asked, ChangeOf, LookOf, NotServed, asked_of}
 use Rattle.node_core.specs.Serving.{carried_at, may_follow, replayed, replayed_as, replayed_all}
 use Rattle.node_store.specs.Parts.{IsNodeOf}
-use Rattle.node_store.specs.Reading.{LeadsOn, IsBodyRead}
+use Rattle.node_store.specs.Reading.{LeadsOn}
 
 pub new_one : (server : ℕ) (setup : Setup) → IsNodeOf server setup (new_node server setup)
 new_one server setup = record { server' = refl; setup' = refl; from_two = omega arith }

@@ -1,8 +1,8 @@
 -- Records that follow one another: what their spellings begin with, and where they lead.
-use Rattle.std.proofs.Common.{◌≡◌, ◌≢◌, ◌∙◌, sym, ap, subst, refl, ℕ, ◌+◌, ◌-◌, ◌<◌, ◌≤◌, ◌^◌, List, [], ◌∷◌, ◌++◌, append_assoc, length, take, drop, arith, Bool, true, false, ◌&&◌, Option, Some, None, Result, Ok, Err, inl, inr, ◌⊎◌}
+use Rattle.std.proofs.Common.{◌≡◌, ◌≢◌, ◌∙◌, sym, ap, subst, refl, ℕ, ◌+◌, ◌-◌, ◌<◌, ◌≤◌, ◌^◌, List, [], ◌∷◌, ◌++◌, length, take, drop, arith, true, false, Option, Some, None, Ok, Err}
 use Rattle.std.specs.List.{AllByRecursion, flat_map}
-use Rattle.std.proofs.lemmas.Bool.{and_parts, and_from}
-use Rattle.std.proofs.lemmas.List.{append-nil, length-append, length-drop, length-take-le, drop-drop, take_at, take_all, take-append-drop}
+use Rattle.std.proofs.lemmas.Bool.{and_from}
+use Rattle.std.proofs.lemmas.List.{append-nil, length-append, length-drop, length-take-le, take_at, take_all, take-append-drop}
 use Rattle.std.proofs.Math.Seq.{take-add}
 use Rattle.std.proofs.lemmas.Grind.{flat_map-append}
 use Rattle.mds_base.specs.RowKeys.{RowMap}
@@ -13,17 +13,17 @@ use Rattle.records.specs.declared.fault.RecordFault.{RecordFault}
 use Rattle.records.specs.declared.fault.RecordFault.TheVariants as record_faults
 use Rattle.records.specs.declared.record.Record.{Record}
 use Rattle.records.specs.declared.record.Record.TheVariants.{Head as Begins, Opened, Served}
-use Rattle.records.specs.Spelling.{IsRecord, IsChange, IsServed, Spells, GivesOrMemory, record_spelling}
+use Rattle.records.specs.Spelling.{IsRecord, IsChange, Spells, GivesOrMemory, record_spelling}
 use Rattle.records.specs.Reading.{record_at}
 use Rattle.records.proofs.Decoding.{Decodes, same_ok}
 use Rattle.records.proofs.Records.{record_reads}
 use Rattle.node_core.specs.Nodes.{NodeV, StoreV}
 use Rattle.node_core.specs.Ranges.{RecordFits, dir_of}
-use Rattle.node_core.specs.Serving.{may_follow, replayed, replayed_as, replayed_all, IsReplayed}
+use Rattle.node_core.specs.Serving.{may_follow, replayed, replayed_all, IsReplayed}
 use Rattle.node_store.specs.Damage.{NoneFollows}
-use Rattle.node_store.specs.Stands.{all_follow, IsBody}
+use Rattle.node_store.specs.Stands.{all_follow}
 use Rattle.node_store.proofs.Standing.{replayed_more, follow_more}
-use Rattle.node_store.specs.Reading.{TakesRecord, TakesFirst, IsFrontOf, IsHeadOf, IsHeadFound, IsRead, IsBodyRead, LeadsOn, IsWrongWithin}
+use Rattle.node_store.specs.Reading.{TakesRecord, IsFrontOf, IsHeadOf, IsHeadFound, IsRead, LeadsOn, IsWrongWithin}
 
 abbrev reads : Decodes Spells record_at
 reads = record_reads.decodes

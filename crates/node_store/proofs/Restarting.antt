@@ -1,5 +1,5 @@
 -- What a restarted server is brought back with.
-use Rattle.std.proofs.Common.{◌≡◌, ◌∙◌, sym, ap, subst, refl, ℕ, ◌+◌, ◌<◌, ◌≤◌, length, take, List, [], ◌∷◌, ◌++◌, Bool, true, false, cond, nat_lt, arith, Option, Some, None, unwrap_or, inl, inr, ◌⊎◌, Result, Ok, Err, IfErr, OnErr, IsErrAnd}
+use Rattle.std.proofs.Common.{◌≡◌, ◌∙◌, sym, ap, subst, refl, ℕ, ◌<◌, ◌≤◌, length, take, List, [], ◌∷◌, ◌++◌, Bool, true, false, cond, nat_lt, arith, Option, Some, None, unwrap_or, inl, inr, Result, Ok, Err, IfErr, OnErr, IsErrAnd}
 use Rattle.std.proofs.lemmas.Bool.{le-ltb, lt-ltb}
 use Rattle.std.proofs.lemmas.List.{take_all}
 use Rattle.mds_base.specs.declared.setup.Setup.{Setup}
@@ -23,8 +23,8 @@ use Rattle.node_core.specs.Serving.{replayed_all}
 use Rattle.node_store.specs.Damage.{IsDamaged}
 use Rattle.node_store.specs.Reading.{IsRefusal, IsBad, store_fault_of}
 use Rattle.node_store.specs.Serve.{IsAllOrNone}
-use Rattle.node_store.specs.Stands.{StandFor, StandsForNone, IsBody, all_follow, head_of}
-use Rattle.node_store.specs.Store.{Store, HoldsStore, IsKept, HasDoubt, LeavesDoubt, IsDownAt}
+use Rattle.node_store.specs.Stands.{StandFor, StandsForNone, all_follow, head_of}
+use Rattle.node_store.specs.Store.{HoldsStore, HasDoubt, LeavesDoubt}
 use Rattle.node_store.proofs.OpeningLaws.{stand_once, not_damaged}
 use Rattle.node_store.proofs.ReadingLogs.{refused_more}
 use Rattle.node_store.proofs.Standing.{stand_more}

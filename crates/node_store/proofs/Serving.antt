@@ -1,5 +1,5 @@
 -- The records of a Serve have a spelling and may follow, and the node stays its server's.
-use Rattle.std.proofs.Common.{◌≡◌, ◌∙◌, sym, ap, subst, refl, ℕ, ◌+◌, ◌<◌, ◌≤◌, ◌^◌, ◌==◌, List, [], ◌∷◌, length, Bool, true, false, cond, nat_le, arith, lit<, Option, Some, None, MatchOption, if◌then◌else◌}
+use Rattle.std.proofs.Common.{◌≡◌, ◌∙◌, sym, ap, subst, refl, ℕ, ◌+◌, ◌<◌, ◌≤◌, ◌^◌, ◌==◌, List, [], ◌∷◌, length, Bool, true, false, cond, arith, lit<, Option, Some, None, MatchOption, if◌then◌else◌}
 use Rattle.std.specs.Cmp.{eq_by_cmp_equiv}
 use Rattle.std.specs.FinMap as map
 use Rattle.std.specs.List.{AllByRecursion}
@@ -19,14 +19,14 @@ use Rattle.mds_base.proofs.Places.{places_total}
 use Rattle.records.specs.declared.msg.Msg.{Msg}
 use Rattle.records.specs.declared.msg.Msg.TheVariants.{Request, Redirect, Answer, Busy, Held, Transfer, Installed}
 use Rattle.records.specs.declared.record.Record.{Record}
-use Rattle.records.specs.declared.record.Record.TheVariants.{Head, Opened, Served}
-use Rattle.records.specs.Spelling.{IsRecord, IsDirectory, IsChange, MaySay, IsNumbered, IsServed}
+use Rattle.records.specs.declared.record.Record.TheVariants.{Served}
+use Rattle.records.specs.Spelling.{IsRecord, IsDirectory, IsChange, MaySay, IsNumbered}
 use Rattle.sessions.specs.declared.kept.Judged.{Judged}
 use Rattle.sessions.specs.declared.kept.Judged.TheVariants.{New, Again, Old}
 use Rattle.sessions.specs.Kept.{judge_kept}
-use Rattle.node_core.specs.Nodes.{NodeV, StoreV, has_numbers, end_of_numbers, owns, session_in, row_in, part_for, noted_in}
-use Rattle.node_core.specs.Rules.{Asked, ChangeOf, LookOf, NotServed, asked_of, said_of, said_in, found, Outcome, Silent, Looks, Repeats, Carries, by_judged, outcome, outcome_of}
-use Rattle.node_core.specs.Serving.{serve, served_as, carried_at, part_at, may_follow, may_carry, is_new_change, replayed, replayed_as, replayed_all}
+use Rattle.node_core.specs.Nodes.{NodeV, StoreV, has_numbers, end_of_numbers, owns, session_in, row_in}
+use Rattle.node_core.specs.Rules.{Asked, ChangeOf, LookOf, NotServed, asked_of, said_of, said_in, Outcome, Silent, Looks, Repeats, Carries, by_judged, outcome, outcome_of}
+use Rattle.node_core.specs.Serving.{serve, served_as, part_at, may_carry, is_new_change, replayed_all}
 use Rattle.node_core.proofs.ReplayLaw.{replay_law}
 use Rattle.node_core.proofs.Replayed.{follows_so}
 use Rattle.node_store.proofs.ReadingNodes.{still_all}

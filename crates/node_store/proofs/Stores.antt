@@ -1,5 +1,5 @@
 -- A server on a disk: what its parts say of it.
-use Rattle.std.proofs.Common.{◌≡◌, ◌∙◌, sym, ap, subst, refl, ℕ, List, [], Bool, true, false, cond, arith, Option, Some, None, inl, inr, ◌⊎◌, IsTrue}
+use Rattle.std.proofs.Common.{◌≡◌, ◌∙◌, sym, ap, subst, refl, ℕ, List, [], Bool, true, false, cond, Option, Some, None, inl, inr, IsTrue}
 use Rattle.mds_base.specs.declared.setup.Setup.{Setup}
 use Rattle.records.specs.declared.record.Record.{Record}
 use Rattle.gate_log.specs.Log.{HoldsLog}

@@ -1,5 +1,5 @@
 -- Reading a log: a record at the front of some bytes, a body, and what a refused call says.
-use Rattle.std.specs.Prelude.{◌≡◌, ◌≢◌, ℕ, ◌+◌, ◌≤◌, List, [], ◌++◌, length, take, drop, Option, None, Some, ⊤, true}
+use Rattle.std.specs.Prelude.{◌≡◌, ◌≢◌, ℕ, ◌≤◌, List, [], ◌++◌, length, take, Option, None, Some, ⊤, true}
 use Rattle.std.specs.List.{AllByRecursion, flat_map}
 use Rattle.mds_base.specs.declared.setup.Setup.{Setup}
 use Rattle.mds_base.specs.declared.store_fault.Damage.{Damage}

@@ -1,4 +1,3 @@
-use Rattle.std.proofs.Common.{◌≢◌, length, arith}
 use Rattle.node_store.proofs.ReadingRecords.{no_head, head_found, head_longer}
 use Rattle.node_store.proofs.reading.head_in.Goals as goal
 

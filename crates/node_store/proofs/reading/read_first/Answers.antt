@@ -1,5 +1,4 @@
 use Rattle.std.proofs.Common.{[], ◌∙◌, sym, refl, List, ℕ, subst}
-use Rattle.mds_base.specs.declared.store_fault.Damage.{Damage}
 use Rattle.gate_log.proofs.Reading.{none_read, some_gate}
 use Rattle.node_store.specs.Reading.{IsWrongHead}
 use Rattle.node_store.proofs.ReadingLogs.{first_read, first_wrong}
@@ -22,6 +21,8 @@ returns-in-Some-2-clause-refused g c =
     let seen = g.D.Disk.seen c.args.disk.now c.args.log.now.file in
     let has = rw c.in-Some.is at c.in_ok-next.ensures.read in
     let wrong = rw c.in-Some-2.is at c.in_ok-read_head.ensures in
-    let P : List ℕ → Type 0 = λ body. IsWrongHead c.args.server c.args.setup body c.in-Some-2.damage in
-    (refl, first_wrong seen (g.D.Disk.seen c.next_body.new.disk c.args.log.now.file) (c.next_body.ensures.unchanged.bytes c.args.log.now.file) c.args.log.now c.args.server c.args.setup c.in-Some.next c.next_body.new.into.items c.in-Some-2.damage
-    (has [] (none_read seen c.args.log.now (g.D.Disk.images c.args.disk.now) c.requires.ready.told)) (subst P c.deref.ensures.value wrong))
+    let P : List ℕ → Type 0 = λ body. IsWrongHead c.args.server c.args.setup body c.in-Some-2.damage in (
+      refl,
+      first_wrong seen (g.D.Disk.seen c.next_body.new.disk c.args.log.now.file) (c.next_body.ensures.unchanged.bytes c.args.log.now.file) c.args.log.now c.args.server c.args.setup c.in-Some.next c.next_body.new.into.items c.in-Some-2.damage
+          (has [] (none_read seen c.args.log.now (g.D.Disk.images c.args.disk.now) c.requires.ready.told)) (subst P c.deref.ensures.value wrong),
+    )

@@ -27,6 +27,8 @@ returns-in-None-clause-node g c =
 pub returns-in-Some-2-clause-refused : goal.returns-in-Some-2-clause-refused
 returns-in-Some-2-clause-refused g c = λ server setup has.
     let old : StoreV = record { node = c.args.node.now; rows = c.args.rows.now } in
-    let P : List ℕ → Type 0 = λ body. IsWrongWithin old body c.in-Some-2.place in
-    (refl, is_wrong_there (g.D.Disk.seen c.args.disk.now c.args.log.now.file) (g.D.Disk.seen c.next_body.new.disk c.args.log.now.file) (c.next_body.ensures.unchanged.bytes c.args.log.now.file) server setup c.args.log.now c.args.at c.next_body.new.into.items
-    c.in-Some.next c.in-Some-2.place old (rw c.in-Some.is at c.in_ok-next.ensures.read) (subst P c.deref.ensures.value (rw c.in-Some-2.is at c.in_ok-read_body.ensures)) has)
+    let P : List ℕ → Type 0 = λ body. IsWrongWithin old body c.in-Some-2.place in (
+      refl,
+      is_wrong_there (g.D.Disk.seen c.args.disk.now c.args.log.now.file) (g.D.Disk.seen c.next_body.new.disk c.args.log.now.file) (c.next_body.ensures.unchanged.bytes c.args.log.now.file) server setup c.args.log.now c.args.at c.next_body.new.into.items
+          c.in-Some.next c.in-Some-2.place old (rw c.in-Some.is at c.in_ok-next.ensures.read) (subst P c.deref.ensures.value (rw c.in-Some-2.is at c.in_ok-read_body.ensures)) has,
+    )

@@ -1,5 +1,5 @@
 use Rattle.std.proofs.Common.{sym}
-use Rattle.node_store.proofs.ReadingRecords.{fits, none_follows, nothing_follows, took}
+use Rattle.node_store.proofs.ReadingRecords.{fits, none_follows}
 use Rattle.node_store.proofs.reading.replay_first.Goals as goal
 
 pub replay-requires : goal.replay-requires

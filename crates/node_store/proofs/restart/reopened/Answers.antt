@@ -1,6 +1,5 @@
 use Rattle.std.proofs.Common.{sym, subst}
 use Rattle.mds_base.specs.declared.store_fault.StoreFault.{StoreFault}
-use Rattle.gate_log.specs.Calls.{IsOpenAnswer}
 use Rattle.node_store.specs.Reading.{IsRefusal}
 use Rattle.node_store.specs.Stands.{StandsForNone}
 use Rattle.node_store.proofs.Restarting.{log_refused}

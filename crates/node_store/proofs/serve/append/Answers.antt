@@ -1,4 +1,4 @@
-use Rattle.std.proofs.Common.{subst, sym, ap, ℕ}
+use Rattle.std.proofs.Common.{subst, ap, ℕ}
 use Rattle.gate_log.specs.Calls.{StaysTold}
 use Rattle.gate_log.specs.LogState.{LogState}
 use Rattle.node_store.proofs.Standing.{kept_after, either_after, doubt_after}

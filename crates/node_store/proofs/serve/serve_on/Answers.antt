@@ -5,7 +5,7 @@ use Rattle.node_core.specs.Nodes.{StoreV}
 use Rattle.node_core.specs.Serving.{serve}
 use Rattle.records.specs.declared.record.Record.{Record}
 use Rattle.node_store.specs.Store.{IsKept, LeavesDoubt, StandsForEither}
-use Rattle.node_store.proofs.Serving.{served_body, IsServedBody}
+use Rattle.node_store.proofs.Serving.{served_body}
 use Rattle.node_store.proofs.serve.serve_on.Goals as goal
 
 pub returns-in-Ok-clause-kept : goal.returns-in-Ok-clause-kept

@@ -1,5 +1,5 @@
 use Rattle.std.proofs.Common.{◌≡◌, ◌∙◌, ap, subst, sym, true}
-use Rattle.node_core.specs.Nodes.{NodeV, StoreV, has_numbers}
+use Rattle.node_core.specs.Nodes.{StoreV, has_numbers}
 use Rattle.node_store.specs.Parts.{IsNodeOf}
 use Rattle.node_store.specs.Store.{Store, IsKept}
 use Rattle.node_store.proofs.Serving.{serve_stays, same_store}
