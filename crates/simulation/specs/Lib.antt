@@ -1,0 +1,6 @@
+pub mod Calls
+pub mod Fuses
+pub mod Ranges
+pub mod Runs
+pub mod Shows
+pub mod Starts

@@ -1,0 +1,138 @@
+-- What servers on their disks, clients and messages of one process show: a run so far.
+use Rattle.std.specs.Prelude.{◌≡◌, ℕ, ◌⊎◌, ◌&&◌, ◌<◌, ◌≤◌, zero, suc, Bool, true, false, not, is_some, List, [], ◌∷◌, ◌++◌, length, Option, Some, None}
+use Rattle.std.specs.Prelude.{map as list_map}
+use Rattle.std.specs.List.{slice_get}
+use Rattle.std.specs.FinSet as set
+use Rattle.std.specs.declared.cmp.Ordering.{Ordering}
+use Rattle.std.specs.Ordering.{nat_cmp, ordering_then}
+use Rattle.mds_base.specs.declared.setup.Setup.{Setup}
+use Rattle.records.specs.declared.msg.Msg.{Msg}
+use Rattle.records.specs.declared.msg.Msg.TheVariants.{Request, Transfer, Installed}
+use Rattle.mds_out.specs.Disk.{Image, Contents}
+use Rattle.client_core.specs.Clients.{ClientV}
+use Rattle.node_store.specs.Store.{Store, IsDownAt}
+use Rattle.world.specs.declared.event.Event.{Event}
+use Rattle.world.specs.declared.state.ServerState.{ServerState}
+use Rattle.world.specs.declared.state.ClientState.{ClientState}
+use Rattle.world.specs.Events.{is_for_server}
+use Rattle.simulation.specs.declared.made.Kind.{Kind}
+use Rattle.simulation.specs.declared.made.Kind.TheVariants as kinds
+use Rattle.simulation.specs.declared.made.Made.{Made}
+use Rattle.world.specs.Histories as past
+use Rattle.world.specs.Histories.{MadeV, is_taken}
+use Rattle.world.specs.Lists.{Each}
+use Rattle.world.specs.Worlds.{WorldV, store_of}
+use Rattle.simulation.specs.Runs.{RunV, GoesOn, is_named}
+
+-- messages by their servers, and then by their places
+abbrev pub waiting_cmp : ℕ × ℕ → ℕ × ℕ → Ordering
+waiting_cmp a b = ordering_then (nat_cmp a.0 b.0) (nat_cmp a.1 b.1)
+
+pub record SimulationV (X : Type 0) : Type 0 where
+  pub setup : Setup
+  -- the moment
+  pub now : ℕ
+  -- the events so far
+  pub count : ℕ
+  -- the servers, by their numbers
+  pub stores : List (Store X)
+  -- the clients, by their numbers less 1
+  pub clients : List ClientV
+  -- all messages, in the order in which they were sent
+  pub sent : List Msg
+  -- the messages that no Serve named yet: the server of each, and its place
+  pub waiting : set.FinSet waiting_cmp
+  -- the entries that were made
+  pub made : List Made
+  -- the places of the messages that answered a call
+  pub taken : set.FinSet nat_cmp
+
+-- a server on its disk is the server of a world: it is up with its node and rows, or its disk owes it them, the records in
+-- doubt left out
+abbrev pub IsServerAt : {X : Type 0} → (X → Contents) → (X → Image → Type 0) → Store X → ServerState → Bool → Type 0
+IsServerAt seen images store state true = (store.up ≡ Some (store_of state)) × (state.doubt ≡ [])
+IsServerAt seen images store state false = IsDownAt seen images store (store_of state) × (store.doubt ≡ state.doubt)
+
+pub record IsServer {X : Type 0} (seen : X → Contents) (images : X → Image → Type 0) (setup : Setup) (number : ℕ) (store : Store X) (state : ServerState) : Type 0 where
+  pub told : is_some (seen store.disk 1) ≡ true
+  pub server : store.server ≡ number
+  pub setup' : store.setup ≡ setup
+  pub at : IsServerAt seen images store state state.up
+
+-- the servers are those of a world, each at its place
+pub record AreServers {X : Type 0} (seen : X → Contents) (images : X → Image → Type 0) (stores : List (Store X)) (w : WorldV) : Type 0 where
+  pub count : length stores ≡ length w.servers
+  pub each : Each w.servers (λ s state. (store : Store X) → slice_get stores s ≡ Some store → IsServer seen images w.setup s store state)
+
+-- an entry of the world's history, as a value of the program
+abbrev pub kind_of : past.Kind → Kind
+kind_of past.Change = kinds.Change
+kind_of (past.Looked place) = kinds.Lookup place
+
+abbrev pub made_of : MadeV → Made
+made_of made = record { entry = made.entry; kind = kind_of made.kind }
+
+-- the simulation shows the run
+pub record Shows {X : Type 0} (seen : X → Contents) (images : X → Image → Type 0) (sim : SimulationV X) (run : RunV) : Type 0 where
+  pub setup : run.trace.world.setup ≡ sim.setup
+  pub now : run.trace.world.now ≡ sim.now
+  pub count : length run.events ≡ sim.count
+  pub servers : AreServers seen images sim.stores run.trace.world
+  pub clients : list_map (λ (seat : ClientState). seat.client) run.trace.world.clients ≡ sim.clients
+  pub going_on : Each run.trace.world.clients (λ k seat. seat.quit ≡ false)
+  pub sent : run.trace.world.sent ≡ sim.sent
+  pub waiting : (s k : ℕ) → set.contains sim.waiting (s, k) ≡ (is_for_server s (slice_get sim.sent k) && not (is_named run.events k))
+  pub made : list_map made_of run.trace.past.made ≡ sim.made
+  pub taken : (place : ℕ) → set.contains sim.taken place ≡ is_taken run.trace.past.answered place
+
+-- the servers are those of the run's world, or of the world after one event more that may happen
+abbrev pub StandNear : {X : Type 0} → (X → Contents) → (X → Image → Type 0) → List (Store X) → RunV → Type 0
+StandNear seen images stores run = AreServers seen images stores run.trace.world ⊎ ((event : Event) × GoesOn run event (λ longer. AreServers seen images stores longer.trace.world))
+
+-- a call that was answered is an event of the run
+abbrev pub Happens : {X : Type 0} → (X → Contents) → (X → Image → Type 0) → SimulationV X → SimulationV X → Event → Type 0
+Happens seen images old new event = (run : RunV) → Shows seen images old run → GoesOn run event (Shows seen images new)
+
+-- a call that was refused leaves the servers near the run
+abbrev pub StaysNear : {X : Type 0} → (X → Contents) → (X → Image → Type 0) → SimulationV X → SimulationV X → Type 0
+StaysNear seen images old new = (run : RunV) → Shows seen images old run → StandNear seen images new.stores run
+
+-- nothing happened that the run would tell
+abbrev pub ShowsSame : {X : Type 0} → (X → Contents) → (X → Image → Type 0) → SimulationV X → SimulationV X → Type 0
+ShowsSame seen images old new = (run : RunV) → Shows seen images old run → Shows seen images new run
+
+-- the client of a number
+abbrev pub client_at : List ClientV → ℕ → Option ClientV
+client_at clients zero = None
+client_at clients (suc k) = slice_get clients k
+
+-- the server of a message, where it is for one
+abbrev pub server_for : Option Msg → Option ℕ
+server_for (Some (Request server ask cursor)) = Some server
+server_for (Some (Transfer server dir part depth bits sessions top rows)) = Some server
+server_for (Some (Installed server dir part child)) = Some server
+server_for msg = None
+
+abbrev pub store_is_up : {X : Type 0} → Option (Store X) → Bool
+store_is_up None = false
+store_is_up (Some store) = is_some store.up
+
+abbrev pub is_up : {X : Type 0} → SimulationV X → ℕ → Bool
+is_up sim server = store_is_up (slice_get sim.stores server)
+
+-- the message at a place waits for a server that is up
+abbrev pub IsDue : {X : Type 0} → SimulationV X → ℕ → Type 0
+IsDue sim place = (server : ℕ) × (server < sim.setup.servers) × (is_up sim server ≡ true) × (set.contains sim.waiting (server, place) ≡ true)
+
+-- the first such message, where there is one
+abbrev pub IsFirstDue : {X : Type 0} → SimulationV X → Option ℕ → Type 0
+IsFirstDue sim None = (place : ℕ) → IsDue sim place → ⊥
+IsFirstDue sim (Some place) = IsDue sim place × ((other : ℕ) → IsDue sim other → place ≤ other)
+
+-- a change stands, and a lookup where its answer was taken
+abbrev pub kind_stands : set.FinSet nat_cmp → Kind → Bool
+kind_stands taken kinds.Change = true
+kind_stands taken (kinds.Lookup place) = set.contains taken place
+
+abbrev pub stands_in : {X : Type 0} → SimulationV X → Made → Bool
+stands_in sim made = kind_stands sim.taken made.kind
