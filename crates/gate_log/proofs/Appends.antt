@@ -15,9 +15,6 @@ module _ (file end : ℕ) (bodies : List (List ℕ)) (body written : List ℕ) (
       let torn : IsTorn (log_length bodies) (length written) bytes (image file) = subst (λ e. IsTorn e (length written) bytes (image file)) log.ends (subst (λ b. IsTorn end (length written) b (image file)) (durable over.before over.was) over.changes.changed) in
       torn_behind bodies body bytes (image file) (length written) log.holds torn
 
-  rest_of : List ℕ → List ℕ
-  rest_of bytes = drop (log_length bodies + length (framed body ++ 0 ∷ [])) bytes
-
   staged_bytes : (bytes mid : List ℕ) (log : IsLogOf (open_log file end) bodies bytes) → mid ≡ put bytes end written → mid ≡ staged bodies log.holds.gate body (drop (log_length bodies + length (framed body ++ 0 ∷ [])) bytes)
   staged_bytes bytes mid log put_is = put_is ∙ ap (λ e. put bytes e written) log.ends ∙ ap (put bytes (log_length bodies)) is ∙ written_behind bodies body bytes log.holds
 

@@ -1,6 +1,9 @@
 pub mod Appends
 pub mod Frames
+pub mod Lengths
 pub mod Makes
+pub mod Reading
 pub mod Replays
 pub mod Scans
+pub mod Told
 pub mod Unique

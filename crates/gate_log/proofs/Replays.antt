@@ -10,7 +10,7 @@ use Rattle.mds_out.specs.Disk.{Image}
 use Rattle.gate_log.specs.Calls.{IsGateAt, IsSomeGate, IsReplayed}
 use Rattle.gate_log.proofs.Frames.{longer, length-framed}
 
-log_bytes-append : (before after : List (List ℕ)) → log_bytes (before ++ after) ≡ log_bytes before ++ log_bytes after
+pub log_bytes-append : (before after : List (List ℕ)) → log_bytes (before ++ after) ≡ log_bytes before ++ log_bytes after
 log_bytes-append [] after = refl
 log_bytes-append (body ∷ before) after = ap (λ l. (1 ∷ framed body) ++ l) (log_bytes-append before after) ∙ sym (append_assoc (1 ∷ framed body) (log_bytes before) (log_bytes after))
 

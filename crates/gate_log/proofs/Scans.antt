@@ -131,13 +131,6 @@ none (Some bytes) known size law is empty =
 
 -- ---- calls that change nothing, one after another
 
-pub unchanged_start : (seen : Contents) (sizes : Lengths) → IsUnchanged seen seen sizes sizes
-unchanged_start seen sizes = record { bytes = λ file. refl; lengths = λ file. known_stays (sizes file) }
-  where
-    known_stays : (size : Option ℕ) → OnTold size (λ n. size ≡ Some n)
-    known_stays None = tt
-    known_stays (Some n) = refl
-
 known_twice : (a b c : Option ℕ) → OnTold a (λ n. b ≡ Some n) → OnTold b (λ n. c ≡ Some n) → OnTold a (λ n. c ≡ Some n)
 known_twice None b c first second = tt
 known_twice (Some n) None c first second = cc
@@ -149,9 +142,6 @@ unchanged_twice seen seen' seen'' sizes sizes' sizes'' first second = record { b
 pub known_still : (known known' : Option ℕ) (size : ℕ) → known ≡ Some size → OnTold known (λ n. known' ≡ Some n) → known' ≡ Some size
 known_still None known' size is stays = cc
 known_still (Some n) known' size is stays = stays ∙ is
-
-pub same_start : (images : Image → Type 0) → AreSame images images
-same_start images = record { no_other = λ image is. is; all = λ image is. is }
 
 pub same_twice : (a b c : Image → Type 0) → AreSame a b → AreSame b c → AreSame a c
 same_twice a b c first second = record { no_other = λ image is. first.no_other image (second.no_other image is); all = λ image is. second.all image (first.all image is) }

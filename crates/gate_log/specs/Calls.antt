@@ -2,9 +2,9 @@
 use Rattle.std.specs.Prelude.{◌≡◌, ◌≢◌, ◌≤◌, ℕ, max, List, [], ◌∷◌, ◌++◌, length, Option, None, Some, Result, Ok, Err, ⊤}
 use Rattle.gate_log.specs.declared.gate_log.LogFault.{LogFault}
 use Rattle.gate_log.specs.declared.gate_log.LogFault.TheVariants.{Device, Stopped, BadLog, OutOfMemory}
-use Rattle.gate_log.specs.Log.{log_bytes, IsCutShort}
+use Rattle.gate_log.specs.Log.{gate_place, IsCutShort}
 use Rattle.gate_log.specs.LogState.{LogState, IsLogOf}
-use Rattle.mds_out.specs.Disk.{Image}
+use Rattle.mds_out.specs.Disk.{Image, Tells}
 use Rattle.mds_out.specs.Known.{OnTold}
 
 -- a refusal is the disk's: it failed or found no memory
@@ -23,6 +23,10 @@ IsOpenAnswer seen (Err Stopped) = ⊥
 IsOpenAnswer seen (Err (BadLog place)) = OnTold seen (λ bytes. IsCutShort bytes place)
 IsOpenAnswer seen (Err OutOfMemory) = ⊤
 
+-- the disk tells a file exactly where it told it before
+abbrev pub StaysTold : Option (List ℕ) → Option (List ℕ) → Type 0
+StaysTold before now = Tells before now (λ old new. ⊤)
+
 -- an image while the file of a log is made: of that file at most one byte, or no more than it had
 pub record IsMaking (file : ℕ) (old : Image → Type 0) (image : Image) : Type 0 where
   pub before : Image
@@ -33,13 +37,23 @@ pub record IsMaking (file : ℕ) (old : Image → Type 0) (image : Image) : Type
 -- the place of a gate of the log: these bodies stand before it, and these from it on
 pub record IsGateAt (log : LogState) (place : ℕ) (before after : List (List ℕ)) (bytes : List ℕ) : Type 0 where
   pub is : IsLogOf log (before ++ after) bytes
-  pub place_is : place ≡ length (log_bytes before)
+  pub place_is : place ≡ gate_place before
 
 -- some gate of the log stands here
 pub record IsSomeGate (log : LogState) (place : ℕ) (bytes : List ℕ) : Type 0 where
   pub before : List (List ℕ)
   pub after : List (List ℕ)
   pub at : IsGateAt log place before after bytes
+
+-- these bodies, the first ones of the log, were read up to the gate at this place
+pub record HasRead (log : LogState) (place : ℕ) (read : List (List ℕ)) (bytes : List ℕ) : Type 0 where
+  pub after : List (List ℕ)
+  pub at : IsGateAt log place read after bytes
+
+-- At the end the log's bodies are those that were read, else one more was read up to the next gate.
+abbrev pub ReadsOn : LogState → List (List ℕ) → Option ℕ → List ℕ → List ℕ → Type 0
+ReadsOn log read None into bytes = IsLogOf log read bytes
+ReadsOn log read (Some next) into bytes = HasRead log next (read ++ into ∷ []) bytes
 
 -- No body at the end, else the first of these bodies and the place of the next gate.
 abbrev pub IsReplayed : LogState → List (List ℕ) → List (List ℕ) → Option ℕ → List ℕ → List ℕ → Type 0

@@ -1,5 +1,5 @@
 -- What a log file holds: log = gate (body gate)*, body = length u32, then that many bytes. A gate is one byte; 01 is open.
-use Rattle.std.specs.Prelude.{◌≡◌, ◌≢◌, ◌⊎◌, ◌+◌, ◌<◌, ◌^◌, ℕ, List, [], ◌∷◌, ◌++◌, length, take, All, ⊤}
+use Rattle.std.specs.Prelude.{◌≡◌, ◌≢◌, ◌⊎◌, ◌+◌, ◌<◌, ◌^◌, ℕ, List, [], ◌∷◌, ◌++◌, length, take, drop, sum_by, All, ⊤}
 use Rattle.std.specs.Int.{to_be_bytes, from_be_bytes, w32}
 
 -- a body as the file has it: its length as a big-endian u32, and its bytes
@@ -14,6 +14,14 @@ log_bytes (body ∷ bodies) = 1 ∷ framed body ++ log_bytes bodies
 -- the bytes of the log, its closed gate included
 abbrev pub log_length : List (List ℕ) → ℕ
 log_length bodies = length (log_bytes bodies) + 1
+
+-- the place of the gate behind these bodies
+abbrev pub gate_place : List (List ℕ) → ℕ
+gate_place before = length (log_bytes before)
+
+-- the place of the first byte of the body that follows these
+abbrev pub body_place : List (List ℕ) → ℕ
+body_place before = gate_place before + 5
 
 -- The file holds these bodies before its first closed gate. What follows that gate is not part of the log.
 pub record HoldsLog (bodies : List (List ℕ)) (file : List ℕ) : Type 0 where
@@ -49,3 +57,15 @@ HoldsOneLog = (bodies others : List (List ℕ)) (file : List ℕ) → HoldsLog b
 -- A file that is cut short holds none.
 abbrev pub IsEitherLogOrShort : Type 0
 IsEitherLogOrShort = (bodies : List (List ℕ)) (file : List ℕ) (place : ℕ) → HoldsLog bodies file → IsCutShort file place → ⊥
+
+-- A body takes its length and five bytes, and the last gate one.
+abbrev pub LengthsAddUp : Type 0
+LengthsAddUp = (bodies : List (List ℕ)) → log_length bodies ≡ sum_by (λ body. 5 + length body) bodies + 1
+
+-- One body more makes a log longer.
+abbrev pub OneMoreIsLonger : Type 0
+OneMoreIsLonger = (bodies : List (List ℕ)) (body : List ℕ) → log_length (bodies ++ body ∷ []) ≡ log_length bodies + 5 + length body
+
+-- A body stands in the file at its place.
+abbrev pub BodiesStand : Type 0
+BodiesStand = (before after : List (List ℕ)) (body file : List ℕ) → HoldsLog (before ++ body ∷ after) file → take (length body) (drop (body_place before) file) ≡ body

@@ -1,7 +1,7 @@
 -- An open log, and what the disk owes it.
-use Rattle.std.specs.Prelude.{◌≡◌, ◌≢◌, ◌≤◌, ℕ, Bool, true, false, List, length, Some, Result, Ok, Err, OnOk, IsErrOf}
+use Rattle.std.specs.Prelude.{◌≡◌, ◌≢◌, ◌≤◌, ℕ, Bool, false, List, length, Some, Result, OnOk, IsErrOf}
 use Rattle.gate_log.specs.declared.gate_log.LogFault.{LogFault}
-use Rattle.gate_log.specs.declared.gate_log.LogFault.TheVariants.{Device, Stopped, BadLog, OutOfMemory}
+use Rattle.gate_log.specs.declared.gate_log.LogFault.TheVariants.{Device}
 use Rattle.gate_log.specs.Log.{HoldsLog, log_length}
 use Rattle.mds_out.specs.Disk.{Image, Contents, Lengths, ChangesOne}
 use Rattle.mds_out.specs.Images.{IsTorn}
@@ -55,14 +55,6 @@ pub record HasLogCause {T : Type 0} (before now : ℕ) (result : Result T LogFau
   pub later : before ≤ now
   pub device : IsErrOf result Device → Rose before now
   pub kept : OnOk result (now ≡ before)
-
--- the disk gave up, which stops a log
-abbrev pub is_disk_fault : {T : Type 0} → Result T LogFault → Bool
-is_disk_fault (Ok _) = false
-is_disk_fault (Err Device) = true
-is_disk_fault (Err Stopped) = false
-is_disk_fault (Err (BadLog place)) = false
-is_disk_fault (Err OutOfMemory) = true
 
 -- a log that has not stopped
 abbrev pub open_log : ℕ → ℕ → LogState

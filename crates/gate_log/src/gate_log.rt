@@ -1,8 +1,8 @@
 //! The log.
 ghost use Rattle.std.specs.Prelude.{◌≡◌, ◌+◌, ◌^◌, ◌<◌, ◌≤◌, ◌++◌, ◌∷◌, [], List, ℕ, Ok, Err, Some, None, true, false, length, IfOk, IfErr, OnOk, OnErr, IfSome, MatchOption};
-ghost use Rattle.gate_log.specs.Calls.{IsDiskAnswer, IsOpenAnswer, IsMaking, IsGateAt, IsSomeGate, IsReplayed};
+ghost use Rattle.gate_log.specs.Calls.{IsDiskAnswer, IsOpenAnswer, IsMaking, IsGateAt, IsSomeGate, IsReplayed, HasRead, ReadsOn, StaysTold};
 ghost use Rattle.gate_log.specs.Found.{IsFound};
-ghost use Rattle.gate_log.specs.Log.{IsBeforeOrAfter, HoldsOneLog, IsEitherLogOrShort};
+ghost use Rattle.gate_log.specs.Log.{IsBeforeOrAfter, HoldsOneLog, IsEitherLogOrShort, LengthsAddUp, OneMoreIsLonger, BodiesStand};
 ghost use Rattle.gate_log.specs.LogState.{open_log, IsReady, HasBodies, IsElsewhereOld, HasLogCause};
 ghost use Rattle.gate_log.specs.Refusals.{log_fault_of, IsReplayRefusal, IsEndReady, IsShortEnd};
 ghost use Rattle.gate_log.specs.declared.gate_log.LogFault.TheVariants.{OutOfMemory};
@@ -79,6 +79,9 @@ impl GateLog {
         ensures made { IfOk result (λ log. log ≡ open_log file 1) }
         ensures ready { OnOk result (IsReady (open_log file 1) (D.seen disk.new) (D.sizes disk.new) (D.images disk.new)) }
         ensures empty { OnOk result (HasBodies (open_log file 1) (D.seen disk.new) []) }
+        ensures bytes { OnOk result (OnTold (D.seen disk.new file) (λ bytes. bytes ≡ 0 ∷ [])) }
+        ensures size { OnOk result (D.sizes disk.new file ≡ Some 1) }
+        ensures told { StaysTold (D.seen disk.old file) (D.seen disk.new file) }
         ensures any_moment { LeavesOnly D.moment D.images_since disk.old disk.new (IsMaking file (D.images disk.old)) }
         ensures elsewhere { IsElsewhereUnchanged file (D.seen disk.old) (D.seen disk.new) (D.sizes disk.old) (D.sizes disk.new) }
         ensures answer { IsDiskAnswer result }
@@ -98,6 +101,7 @@ impl GateLog {
         ensures opened { IfOk result (λ log. (log.file ≡ file) × (log.stopped ≡ false)) }
         ensures ready { IfOk result (λ log. IsReady log (D.seen disk.new) (D.sizes disk.new) (D.images disk.new)) }
         ensures first { IfOk result (λ log. OnTold (D.seen disk.new log.file) (IsSomeGate log 0)) }
+        ensures start { IfOk result (λ log. OnTold (D.seen disk.new log.file) (HasRead log 0 [])) }
         ensures short { IfOk result (λ log. log.length < 2 ^ 63) }
         ensures unchanged { IsUnchanged (D.seen disk.old) (D.seen disk.new) (D.sizes disk.old) (D.sizes disk.new) }
         ensures any_moment { LeavesOnly D.moment D.images_since disk.old disk.new (D.images disk.old) }
@@ -125,6 +129,7 @@ impl GateLog {
             → HasBodies self.new (D.seen disk.new) (bodies ++ piece.now ∷ [])) }
         ensures any_moment { self.old.stopped ≡ false → (bodies : List (List ℕ)) → HasBodies self.old (D.seen disk.old) bodies
             → OnTold (D.seen disk.old self.old.file) (λ _. LeavesOnly D.moment D.images_since disk.old disk.new (λ image. IsBeforeOrAfter bodies piece.now (image self.old.file))) }
+        ensures told { StaysTold (D.seen disk.old self.old.file) (D.seen disk.new self.old.file) }
         ensures images_elsewhere { self.old.stopped ≡ false → LeavesOnly D.moment D.images_since disk.old disk.new (IsElsewhereOld self.old.file (D.images disk.old)) }
         ensures elsewhere { self.old.stopped ≡ false → IsElsewhereUnchanged self.old.file (D.seen disk.old) (D.seen disk.new) (D.sizes disk.old) (D.sizes disk.new) }
         ensures stopped { self.old.stopped ≡ true → (result ≡ Err LogFault.Stopped) × (self.new ≡ self.old) × (disk.new ≡ disk.old) }
@@ -162,6 +167,9 @@ impl GateLog {
         requires gate { self.old.stopped ≡ false → OnTold (D.seen disk.old self.old.file) (IsSomeGate self.old at) }
         ensures given { IfOk result (λ next. (before after : List (List ℕ)) → OnTold (D.seen disk.old self.old.file) (IsGateAt self.old at before after)
             → OnTold (D.seen disk.old self.old.file) (IsReplayed self.old before after next into.new.items)) }
+        ensures read { IfOk result (λ next. (read : List (List ℕ)) → OnTold (D.seen disk.old self.old.file) (HasRead self.old at read)
+            → OnTold (D.seen disk.new self.old.file) (ReadsOn self.old read next into.new.items)) }
+        ensures next { IfOk result (λ next. IfSome next (λ place. place ≡ at + 5 + length into.new.items)) }
         ensures gate { IfOk result (λ next. IfSome next (λ place. OnTold (D.seen disk.new self.old.file) (IsSomeGate self.old place))) }
         ensures end { IfOk result (λ next. MatchOption next (at + 1 ≡ self.old.length) (λ place. (at < place) × (place < self.old.length))) }
         ensures untouched { IfOk result (λ next. next ≡ None → into.new.items ≡ into.old.items) }
@@ -197,10 +205,20 @@ pub fn one_log_law()
     ensures either { IsEitherLogOrShort }
 {}
 
+/// The law of places: how long a log is, and where each of its bodies stands, is a matter of its bodies.
+pub fn log_places_law()
+    ensures lengths { LengthsAddUp }
+    ensures longer { OneMoreIsLonger }
+    ensures bodies { BodiesStand }
+{}
+
 // Cuts a file and writes a closed gate.
 fn make_file<D: Disk>(disk: &mut D, file: u32) -> Result<(), DiskFault>
     ensures ready { OnOk result (IsReady (open_log file 1) (D.seen disk.new) (D.sizes disk.new) (D.images disk.new)) }
     ensures empty { OnOk result (HasBodies (open_log file 1) (D.seen disk.new) []) }
+    ensures bytes { OnOk result (OnTold (D.seen disk.new file) (λ bytes. bytes ≡ 0 ∷ [])) }
+    ensures size { OnOk result (D.sizes disk.new file ≡ Some 1) }
+    ensures told { StaysTold (D.seen disk.old file) (D.seen disk.new file) }
     ensures any_moment { LeavesOnly D.moment D.images_since disk.old disk.new (IsMaking file (D.images disk.old)) }
     ensures elsewhere { IsElsewhereUnchanged file (D.seen disk.old) (D.seen disk.new) (D.sizes disk.old) (D.sizes disk.new) }
     ensures cause { HasDiskCause (D.faults disk.old) (D.faults disk.new) result }

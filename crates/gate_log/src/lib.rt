@@ -12,7 +12,7 @@ mod piece;
 mod scan;
 mod writes;
 
-pub use gate_log::{GateLog, LogFault, one_log_law};
+pub use gate_log::{GateLog, LogFault, log_places_law, one_log_law};
 pub use piece::Piece;
 
 #[cfg(test)]

@@ -2,6 +2,7 @@
 ghost use Rattle.std.specs.Prelude.{◌≡◌, ◌+◌, ◌-◌, ◌^◌, ◌<◌, ◌≤◌, ◌++◌, ◌∷◌, [], List, ℕ, max, false, length, OnOk, OnErr, Some};
 ghost use Rattle.mds_out.specs.Known.{OnKnown, OnTold};
 ghost use Rattle.mds_out.specs.Disk.{Image, Tells, put, LeavesOnly, IsElsewhereUnchanged, HasDiskCause};
+ghost use Rattle.gate_log.specs.Calls.{StaysTold};
 ghost use Rattle.gate_log.specs.Log.{IsBeforeOrAfter};
 ghost use Rattle.gate_log.specs.LogState.{IsWrittenOver, IsElsewhereOld, IsReady, HasBodies, open_log};
 
@@ -19,6 +20,7 @@ pub(crate) fn write_synced<D: Disk>(
     requires within { OnTold (D.sizes disk.old file) (λ size. at ≤ size) }
     ensures written { OnOk result (Tells (D.seen disk.old file) (D.seen disk.new file) (λ old new. new ≡ put old at bytes.now)) }
     ensures size { OnOk result (OnKnown (D.sizes disk.old file) (D.sizes disk.new file) (λ old new. new ≡ max old (at + length bytes.now))) }
+    ensures told { StaysTold (D.seen disk.old file) (D.seen disk.new file) }
     ensures durable { OnOk result (OnTold (D.seen disk.new file) (λ now. (image : Image) → D.images disk.new image → image file ≡ now)) }
     ensures elsewhere { IsElsewhereUnchanged file (D.seen disk.old) (D.seen disk.new) (D.sizes disk.old) (D.sizes disk.new) }
     ensures any_moment { LeavesOnly D.moment D.images_since disk.old disk.new (IsWrittenOver file at (length bytes.now) (D.images disk.old)) }
@@ -43,6 +45,7 @@ pub(crate) fn append_at<D: Disk>(
         → HasBodies (open_log file (end + 5 + length piece.now)) (D.seen disk.new) (bodies ++ piece.now ∷ [])) }
     ensures any_moment { (bodies : List (List ℕ)) → HasBodies (open_log file end) (D.seen disk.old) bodies
         → OnTold (D.seen disk.old file) (λ _. LeavesOnly D.moment D.images_since disk.old disk.new (λ image. IsBeforeOrAfter bodies piece.now (image file))) }
+    ensures told { StaysTold (D.seen disk.old file) (D.seen disk.new file) }
     ensures elsewhere { IsElsewhereUnchanged file (D.seen disk.old) (D.seen disk.new) (D.sizes disk.old) (D.sizes disk.new) }
     ensures images_elsewhere { LeavesOnly D.moment D.images_since disk.old disk.new (IsElsewhereOld file (D.images disk.old)) }
     ensures cause { HasDiskCause (D.faults disk.old) (D.faults disk.new) result }
