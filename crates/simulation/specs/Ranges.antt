@@ -8,7 +8,6 @@ use Rattle.client_core.specs.Clients.{ClientV, dir_of}
 use Rattle.node_store.specs.Serve.{IsMessage, IsWellMade}
 use Rattle.node_store.specs.Store.{Store}
 use Rattle.world.specs.Lists.{Each}
-use Rattle.simulation.specs.Shows.{SimulationV}
 
 pub record IsSetup (setup : Setup) : Type 0 where
   pub some_server : 1 ≤ setup.servers
@@ -35,12 +34,13 @@ abbrev pub IsSent : ℕ → Msg → Type 0
 IsSent servers (Request server ask cursor) = (server < servers) × IsMessage (Request server ask cursor)
 IsSent servers msg = IsMessage msg
 
-pub record AreRanges {X : Type 0} (sim : SimulationV X) : Type 0 where
-  pub setup : IsSetup sim.setup
-  pub now : sim.now < 2 ^ 43
-  pub count : sim.count ≤ 2 ^ 20
-  pub stores : length sim.stores ≡ sim.setup.servers
-  pub numbers : Each sim.stores (λ s store. (store.server ≡ s) × (store.setup ≡ sim.setup))
-  pub clients : length sim.clients ≡ sim.setup.clients
-  pub seats : Each sim.clients (IsSeat sim.setup sim.count)
-  pub sent : Each sim.sent (λ k msg. IsSent sim.setup.servers msg)
+-- the parts that calls of a simulation read are within their ranges
+pub record AreRanges {X : Type 0} (setup : Setup) (now count : ℕ) (stores : List (Store X)) (clients : List ClientV) (sent : List Msg) : Type 0 where
+  pub setup' : IsSetup setup
+  pub moment : now < 2 ^ 43
+  pub events : count ≤ 2 ^ 20
+  pub stores' : length stores ≡ setup.servers
+  pub numbers : Each stores (λ s store. (store.server ≡ s) × (store.setup ≡ setup))
+  pub clients' : length clients ≡ setup.clients
+  pub seats : Each clients (IsSeat setup count)
+  pub sent' : Each sent (λ k msg. IsSent setup.servers msg)

@@ -1,12 +1,6 @@
 //! The opening of the servers on their disks.
-use crate::simulation::Simulation;
-use client_core::Client;
-use mds_base::{Setup, StoreFault};
-use mds_out::{Disk, Fuse};
-use node_store::NodeStore;
-use records::MsgList;
-use std::alloc::{AllocError, Global};
-use std::collections::BTreeSet;
+use mds_base::StoreFault;
+use mds_out::Disk;
 
 /// The disks of servers of which one could not be opened.
 #[derive(Drop)]

@@ -1,6 +1,17 @@
 //! The events of a server.
+ghost use Rattle.std.specs.Prelude.{◌≡◌, ◌≢◌, ℕ, ◌+◌, ◌<◌, ◌^◌, true, Ok, Some, IfOk, OnErr};
+ghost use Rattle.std.specs.List.{slice_get};
+ghost use Rattle.mds_out.specs.Fused.{fused_faults};
+ghost use Rattle.world.specs.declared.event.Event.TheVariants as Event;
+ghost use Rattle.world.specs.declared.event.StopCause.TheVariants as StopCause;
+ghost use Rattle.simulation.specs.Calls.{CanServe, CanMiss, Serves, Restarts, RoseAt, OthersStay, faults_at};
+ghost use Rattle.simulation.specs.Fuses.{seen_by, images_by};
+ghost use Rattle.simulation.specs.Shows.{Happens, StaysNear, server_for};
+ghost use Rattle.simulation.specs.Shows as shown;
+
 use crate::made::{Kind, Made};
 use crate::simulation::Simulation;
+use crate::waiting::server_of;
 use mds_base::{Call, Entry, Reply, StoreFault};
 use mds_out::Disk;
 use records::{Handled, Msg, Record, RecordList};
@@ -33,17 +44,19 @@ impl<D: Disk> Simulation<D> {
     /// Has the server of a message serve it.
     pub fn serve(&mut self, alloc: Global, place: u64) -> Result<Served, AllocError>
         requires room { self.old.count < 2 ^ 20 }
-        requires message { (server : ℕ) × (server_for (slice_get self.old.sent place) ≡ Some server) × (is_up self.old server ≡ true) × (numbers left, in terms of the store) }
+        requires message { CanServe self.old place }
         ensures ok { IfOk result (λ served. (server : ℕ) → server_for (slice_get self.old.sent place) ≡ Some server → Serves (seen_by D.seen) (images_by D.images) self.old self.new server place served) }
         ensures err { OnErr result (StaysNear (seen_by D.seen) (images_by D.images) self.old self.new) }
-        ensures rose { at Served::Stopped: the count of faults of that server's disk has risen }
+        ensures rose { (server : ℕ) → server_for (slice_get self.old.sent place) ≡ Some server → result ≡ Ok Served.Stopped → RoseAt (fused_faults D.faults) self.old self.new server }
+        ensures others { (server : ℕ) → server_for (slice_get self.old.sent place) ≡ Some server → OthersStay self.old self.new server }
         ensures setup { self.new.setup ≡ self.old.setup }
     {
         let at = place as usize;
-        let server = server_of(&self.sent.messages()[at]);
-        let store = &mut self.stores[server as usize];
+        let Some(server) = server_of(&self.sent.messages()[at]) else {
+            return Ok(Served::Silent);
+        };
         let msgs = &self.sent.messages()[at..at + 1];
-        match store.serve_batch(alloc, msgs, self.now, 0) {
+        match self.stores[server as usize].serve_batch(alloc, msgs, self.moment, 0) {
             Ok(handled) => self.served(alloc, server, place, handled),
             Err(StoreFault::Device) => {
                 let _ = self.waiting.remove(&(server, place));
@@ -68,7 +81,12 @@ impl<D: Disk> Simulation<D> {
         } = handled;
         self.made.append(&mut made_of(alloc, &records)?)?;
         let first = self.sent.messages().len() as u64;
-        if let Some(made) = looked(alloc, &self.sent.messages()[place as usize], outputs.messages(), first)? {
+        if let Some(made) = looked(
+            alloc,
+            &self.sent.messages()[place as usize],
+            outputs.messages(),
+            first,
+        )? {
             self.made.push(made)?;
         }
         let some = !outputs.messages().is_empty();
@@ -84,17 +102,23 @@ impl<D: Disk> Simulation<D> {
     /// A message meets a server that is down.
     pub fn miss(&mut self, place: u64)
         requires room { self.old.count < 2 ^ 20 }
-        requires message { (server : ℕ) × (server_for (slice_get self.old.sent place) ≡ Some server) × (is_up self.old server ≡ false) }
-        ensures { Happens (seen_by D.seen) (images_by D.images) self.old self.new (Event.Miss place) }
+        requires message { CanMiss self.old place }
+        ensures happens { Happens (seen_by D.seen) (images_by D.images) self.old self.new (Event.Miss place) }
+        ensures after { self.new ≡ record self.old { count = self.old.count + 1 } }
     {
+        let _ = place;
         self.count += 1;
     }
 
     /// Stops a server that is up.
     pub fn stop(&mut self, server: u32)
         requires room { self.old.count < 2 ^ 20 }
-        requires up { is_up self.old server ≡ true }
-        ensures { Happens (seen_by D.seen) (images_by D.images) self.old self.new (Event.Stop server StopCause.Asked) }
+        requires up { (server < self.old.setup.servers) × (shown.is_up self.old server ≡ true) }
+        ensures happens { Happens (seen_by D.seen) (images_by D.images) self.old self.new (Event.Stop server StopCause.Asked) }
+        ensures faults { faults_at (fused_faults D.faults) self.new server ≡ faults_at (fused_faults D.faults) self.old server }
+        ensures others { OthersStay self.old self.new server }
+        ensures sent { self.new.sent ≡ self.old.sent }
+        ensures setup { self.new.setup ≡ self.old.setup }
     {
         self.stores[server as usize].halt();
         self.count += 1;
@@ -103,16 +127,17 @@ impl<D: Disk> Simulation<D> {
     /// Mends the fuse of a server's disk, and brings the server up again.
     pub fn restart(&mut self, alloc: Global, server: u32) -> Result<Restarted, StoreFault>
         requires room { self.old.count < 2 ^ 20 }
-        requires down { (server < self.old.setup.servers) × (is_up self.old server ≡ false) }
+        requires down { (server < self.old.setup.servers) × (shown.is_up self.old server ≢ true) }
         ensures ok { IfOk result (λ restarted. Restarts (seen_by D.seen) (images_by D.images) self.old self.new server restarted) }
         ensures err { OnErr result (StaysNear (seen_by D.seen) (images_by D.images) self.old self.new) }
-        ensures rose { at Restarted::Stopped: the count of faults of that server's disk has risen }
+        ensures rose { result ≡ Ok Restarted.Stopped → RoseAt (fused_faults D.faults) self.old self.new server }
+        ensures others { OthersStay self.old self.new server }
+        ensures sent { self.new.sent ≡ self.old.sent }
         ensures setup { self.new.setup ≡ self.old.setup }
     {
-        let store = &mut self.stores[server as usize];
-        store.mend();
-        let mut doubt = made_of(alloc, store.doubt())?;
-        match store.restart(alloc, self.now) {
+        self.stores[server as usize].mend();
+        let mut doubt = made_of(alloc, self.stores[server as usize].doubt())?;
+        match self.stores[server as usize].restart(alloc, self.moment) {
             Ok(0) => {}
             Ok(_) => self.made.append(&mut doubt)?,
             Err(StoreFault::Device) => {
@@ -123,34 +148,6 @@ impl<D: Disk> Simulation<D> {
         }
         self.count += 1;
         Ok(Restarted::Up)
-    }
-
-    /// Moves the moment on.
-    pub fn tick(&mut self, by: u64)
-        requires room { self.old.count < 2 ^ 20 }
-        requires moment { self.old.now + by < 2 ^ 43 }
-        ensures { Happens (seen_by D.seen) (images_by D.images) self.old self.new (Event.Tick by) }
-    {
-        self.now += by;
-        self.count += 1;
-    }
-
-    /// From here on `calls` calls of a server's disk pass, and later ones fail, until it is restarted.
-    pub fn arm(&mut self, server: u32, calls: u64)
-        requires { server < self.old.setup.servers }
-        ensures { ShowsSame (seen_by D.seen) (images_by D.images) self.old self.new }
-    {
-        self.stores[server as usize].arm(calls);
-    }
-}
-
-// The server of a message.
-fn server_of(msg: &Msg) -> u32 {
-    match msg {
-        Msg::Request { server, .. } => *server,
-        Msg::Transfer { server, .. } => *server,
-        Msg::Installed { server, .. } => *server,
-        _ => 0,
     }
 }
 
