@@ -1,5 +1,7 @@
 pub mod Damage
+pub mod Parts
+pub mod Reading
 pub mod Refused
+pub mod Serve
 pub mod Stands
 pub mod Store
-pub mod Serve
