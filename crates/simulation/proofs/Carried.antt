@@ -9,6 +9,7 @@ use Rattle.std.proofs.lemmas.Bool.Decides.{nat_tests}
 use Rattle.std.proofs.lemmas.List.{length-append}
 use Rattle.std.proofs.lemmas.Option.{get_or_from_slice_get, slice_get_read, slice_get_within}
 use Rattle.mds_base.specs.declared.call.Call.{Call}
+use Rattle.mds_base.specs.declared.call.Call.TheVariants.{Create, Mkdir, Remove, Lookup, Setattr, Scan, Grab, Load, Link}
 use Rattle.mds_base.specs.declared.setup.Setup.{Setup}
 use Rattle.mds_out.specs.Disk.{Image, Contents}
 use Rattle.records.specs.declared.msg.Msg.{Msg}
@@ -233,3 +234,76 @@ module _ {X : Type 0} (seen : X → Contents) (images : X → Image → Type 0) 
   resend_done pending client' msg sent' waiting' result busy short after request did =
       send_gives (λ v. Happens seen images old v (Resend number)) was number (resent client pending) client' (resend_msg client pending) msg sent' waiting' result after request did
         (happens_from seen images was old _ (Resend number) same (resend_happens seen images was number client pending at.is busy few short))
+
+-- A client takes a message
+
+pub is_numbered : {X : Type 0} (was old : SimulationV X) (number : ℕ) (client : ClientV) → was ≡ old → (1 ≤ number) × (number ≤ old.setup.clients) → length was.clients ≡ was.setup.clients → client ≡ get_or was.clients (number - 1) client → IsAt was.clients number client
+is_numbered {X = X} was old number client same within all read =
+    numbered_at was.clients number client within.0 (let to = within.1 in let e : was.setup.clients ≡ old.setup.clients = ap (λ (v : SimulationV X). v.setup.clients) same in omega (arith, to, e, all)) read
+
+msg_at : (sent : List Msg) (place number : ℕ) (msg : Msg) (o : Option Msg) → slice_get sent place ≡ o → is_for_client number o ≡ true → msg ≡ get_or sent place msg → slice_get sent place ≡ Some msg
+msg_at sent place number msg None is meant read = cc
+msg_at sent place number msg (Some other) is meant read = is ∙ ap Some (sym (read ∙ get_or_from_slice_get sent place other msg is))
+
+-- the message at a place, which is for the client
+pub record IsMeant (sent : List Msg) (place number : ℕ) (msg : Msg) : Type 0 where
+  pub is : slice_get sent place ≡ Some msg
+  pub meant : is_for_client number (Some msg) ≡ true
+
+pub is_meant : {X : Type 0} (was old : SimulationV X) (place number : ℕ) (msg : Msg) → was ≡ old → is_for_client number (slice_get old.sent place) ≡ true → msg ≡ get_or was.sent place msg → IsMeant was.sent place number msg
+is_meant {X = X} was old place number msg same meant read =
+    let meant' : is_for_client number (slice_get was.sent place) ≡ true = subst (λ (v : SimulationV X). is_for_client number (slice_get v.sent place) ≡ true) (sym same) meant in
+    let is = msg_at was.sent place number msg (slice_get was.sent place) refl meant' read in
+    record { is = is; meant = subst (λ o. is_for_client number o ≡ true) is meant' }
+
+abbrev pub with_taken : {X : Type 0} → SimulationV X → ℕ → ClientV → set.FinSet nat_cmp → SimulationV X
+with_taken was k client places =
+    record {
+      setup = was.setup;
+      moment = was.moment;
+      count = was.count + 1;
+      stores = was.stores;
+      clients = slice_set was.clients k client;
+      sent = was.sent;
+      waiting = was.waiting;
+      made = was.made;
+      taken = places;
+    }
+
+module _ {X : Type 0} (was old : SimulationV X) (same : was ≡ old) (number place : ℕ) (client : ClientV) (msg : Msg) (at : IsAt was.clients number client) (there : IsMeant was.sent place number msg) where
+  pub take_said : (taken : Taken) → taken ≡ (taking.take client msg).taken → taken_of (client_at old.clients number) (slice_get old.sent place) ≡ Some taken
+  take_said taken said =
+      subst (λ (v : SimulationV X). taken_of (client_at v.clients number) (slice_get v.sent place) ≡ Some taken) same
+        (ap (λ o. taken_of o (slice_get was.sent place)) at.is ∙ ap (taken_of (Some client)) there.is ∙ ap Some (sym said))
+
+  pub take_done : (seen : X → Contents) (images : X → Image → Type 0) (client' : ClientV) (places : set.FinSet nat_cmp) (taken : Taken) → client.seq < 2 ^ 63 → HasRoom client.pending → taken ≡ (taking.take client msg).taken → client' ≡ (taking.take client msg).client → places ≡ noting was.taken taken place
+      → Happens seen images old (with_taken was (number - 1) client' places) (Take number place)
+  take_done seen images client' places taken few room said after noted =
+      subst (λ p. Happens seen images old (with_taken was (number - 1) client' p) (Take number place)) (sym (noted ∙ ap (λ t. noting was.taken t place) said))
+      (subst (λ c. Happens seen images old (with_taken was (number - 1) c (noting was.taken (taking.take client msg).taken place)) (Take number place)) (sym after)
+      (subst (λ k. Happens seen images old (with_taken was k (taking.take client msg).client (noting was.taken (taking.take client msg).taken place)) (Take number place)) (index_is number)
+      (happens_from seen images was old _ (Take number place) same (take_happens seen images was number place client msg at.is there.is there.meant few room))))
+
+-- A call is sent again
+
+made_fits : (call : Call) → IsWellMade call → dir_of call < 2 ^ 48
+made_fits (Create dir name) made = made.0.1
+made_fits (Mkdir dir name) made = made.0.1
+made_fits (Remove dir name) made = made.0.1
+made_fits (Setattr dir name mode size) made = made.0.1
+made_fits (Lookup dir name) made = made.1
+made_fits (Scan dir) made = made.1
+made_fits (Grab dir name count) made = made.1
+made_fits (Load dir rows) made = made.1
+made_fits (Link dir name id) made = made.1
+
+module _ {X : Type 0} (setup : Setup) (now count : ℕ) (stores : List (Store X)) (clients : List ClientV) (sent : List Msg) (r : AreRanges setup now count stores clients sent) where
+  pub few_attempts : (k : ℕ) (client : ClientV) (pending : Pending) → slice_get clients k ≡ Some client → client.pending ≡ Some pending → pending.attempt < 2 ^ 31
+  few_attempts k client pending is busy = let below = (pending_made setup now count stores clients sent r k client pending is busy).attempts in let few = r.events in omega (arith, below, few)
+
+  pub has_pending : (k : ℕ) (client : ClientV) (pending : Pending) → slice_get clients k ≡ Some client → client.pending ≡ Some pending → HasPending client.pending
+  has_pending k client pending is busy =
+      subst HasPending (sym busy) (made_fits pending.call (pending_made setup now count stores clients sent r k client pending is busy).made, few_attempts k client pending is busy)
+
+pub sends_again : (client client' : ClientV) (msg : Msg) (pending : Pending) → client.pending ≡ Some pending → SendsAgain client client' msg client.pending → SendsAgain client client' msg (Some pending)
+sends_again client client' msg pending busy again = subst (SendsAgain client client' msg) busy again
