@@ -6,3 +6,5 @@ pub mod Showing
 pub mod Sending
 pub mod Taking
 pub mod Carried
+pub mod Arming
+pub mod Due
