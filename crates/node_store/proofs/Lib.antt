@@ -1,4 +1,5 @@
 pub mod OpeningLaws
+pub mod OpeningMoments
 pub mod ReadingLogs
 pub mod ReadingNodes
 pub mod ReadingRecords

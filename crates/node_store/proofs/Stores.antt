@@ -9,6 +9,7 @@ use Rattle.mds_out.specs.Disk.{Image, Contents, Lengths, LeavesOnly}
 use Rattle.mds_out.specs.Known.{OnTold}
 use Rattle.mds_out.proofs.Moments.{started}
 use Rattle.node_core.specs.Nodes.{StoreV}
+use Rattle.node_store.specs.Stands.{FileStandsFor, opened_store}
 use Rattle.node_store.specs.Store.{Store, HoldsStore, IsKept, LeavesDoubt, IsDownAt, KeepsStore, StandsForEither}
 
 -- ---- what the disk keeps
@@ -71,3 +72,10 @@ pub at_up : {D : Type 0} (P : Store D → StoreV → Type 0) (disk : D) (server 
 at_up P disk server setup log inside down doubt view is holds store up =
     let was = was_up down inside store (ap (λ (v : Store _). v.up) is ∙ up) in
     subst (λ (s : StoreV). P view s) was.1 (holds was.0)
+
+-- ---- an opened store
+
+pub opened_told : (told : Option (List ℕ)) (server : ℕ) (setup : Setup) (new : StoreV) → OnTold told (λ bytes. (store : StoreV) × FileStandsFor server setup bytes store × (new ≡ opened_store store))
+    → OnTold told (λ bytes. (store : StoreV) × FileStandsFor server setup bytes store × (Some new ≡ Some (opened_store store)))
+opened_told None server setup new opened = tt
+opened_told (Some bytes) server setup new opened = (opened.0, opened.1, ap (λ (s : StoreV). Some s) opened.2)

@@ -1,4 +1,5 @@
 pub mod Damage
+pub mod Opening
 pub mod Parts
 pub mod Reading
 pub mod Refused

@@ -10,6 +10,7 @@
 mod fuse;
 mod laws;
 mod node_store;
+mod opening;
 mod reading;
 mod restart;
 mod serve;

@@ -1,15 +1,21 @@
-ghost use Rattle.std.specs.Prelude.{◌≡◌, ◌^◌, ◌<◌, ℕ, ◌⊎◌, [], None, Some, true, IfOk, IfErr, OnOk, OnErr, IsErrOf, IsTrue, ◌↔◌};
+ghost use Rattle.std.specs.Prelude.{◌≡◌, ◌^◌, ◌<◌, ◌≤◌, ℕ, ◌⊎◌, [], None, Some, true, IfOk, IfErr, OnOk, OnErr, IsErrOf, MatchResult, IsTrue, ◌↔◌};
 ghost use Rattle.mds_base.specs.declared.store_fault.StoreFault.TheVariants as StoreFault;
 ghost use Rattle.records.specs.declared.msg.Msg.{Msg};
+ghost use Rattle.records.specs.Spelling.{IsHead};
 ghost use Rattle.gate_log.specs.Calls.{StaysTold};
+ghost use Rattle.mds_out.specs.Fault.{Rose};
 ghost use Rattle.mds_out.specs.Known.{OnTold};
 ghost use Rattle.mds_out.specs.Disk.{LeavesOnly};
 ghost use Rattle.node_core.specs.Nodes.{StoreV, has_numbers};
 ghost use Rattle.node_core.specs.Serving.{serve};
+ghost use Rattle.node_store.specs.Parts.{IsNodeOf};
+ghost use Rattle.node_store.specs.Reading.{IsRefusal, IsBad};
 ghost use Rattle.node_store.specs.Refused.{IsServeFault};
+ghost use Rattle.node_store.specs.Stands.{FileStandsFor, opened_store};
 ghost use Rattle.node_store.specs.Serve.{IsMessage, IsOneMessage, HasServed, HasStopped, HasStoreCause};
-ghost use Rattle.node_store.specs.Store.{KeepsStore, StandsForEither, IsDownAt};
+ghost use Rattle.node_store.specs.Store.{KeepsStore, StandsForEither, LeavesOpened, IsDownAt};
 
+use crate::opening::open_on;
 use crate::reading::store_fault;
 use crate::serve::{Refusal, serve_on};
 use gate_log::GateLog;
@@ -60,6 +66,50 @@ pub struct Refused<D: Disk> {
 }
 
 impl<D: Disk> NodeStore<D> {
+    /// Opens the disk of a server for a new run, in which no client has sent anything yet. Where file 1 is new the
+    /// server's log is made; else it is read, and `Damaged` tells the first place at which it is wrong.
+    pub fn bring_up(
+        alloc: Global,
+        disk: D,
+        server: u32,
+        setup: Setup,
+    ) -> Result<NodeStore<D>, Refused<D>>
+        requires head { IsHead 1 setup.servers server setup.threshold }
+        requires lease { setup.lease ≤ 1000000 }
+        ensures named { IfOk result (λ s. (s.server ≡ server) × (s.setup ≡ setup)) }
+
+        // The server is up with the store that the disk's bytes stand for, opened, and the disk keeps it.
+        ensures opened { IfOk result (λ s. OnTold (D.seen disk 1) (λ bytes. (store : StoreV) × FileStandsFor server setup bytes store × (s.up ≡ Some (opened_store store)))) }
+        ensures some { IfOk result (λ s. (store : StoreV) × (s.up ≡ Some store)) }
+        ensures sure { IfOk result (λ s. s.doubt ≡ []) }
+        ensures keeps { IfOk result (λ s. (store : StoreV) → s.up ≡ Some store → OnTold (D.seen s.disk 1) (λ _. KeepsStore (D.images s.disk) server setup store)) }
+
+        // A crash at any moment leaves a disk that stands for one of the stores from before, or for one of them opened.
+        ensures any_moment { MatchResult result (λ s. LeavesOpened D.moment D.images_since (D.seen disk) (D.images disk) server setup disk s.disk) (λ r. LeavesOpened D.moment D.images_since (D.seen disk) (D.images disk) server setup disk r.disk) }
+
+        // `Damaged` tells what is wrong with file 1; `Stopped` and `Room` never come.
+        ensures refused { IfErr result (λ r. IsRefusal (IsBad server setup) (D.seen disk 1) r.fault) }
+        ensures told { MatchResult result (λ s. StaysTold (D.seen disk 1) (D.seen s.disk 1)) (λ r. StaysTold (D.seen disk 1) (D.seen r.disk 1)) }
+        ensures same { IfOk result (λ s. D.faults s.disk ≡ D.faults disk) }
+        ensures device { IfErr result (λ r. r.fault ≡ StoreFault.Device → Rose (D.faults disk) (D.faults r.disk)) }
+        ensures later { IfErr result (λ r. D.faults disk ≤ D.faults r.disk) }
+    {
+        let mut disk = disk;
+        match open_on(alloc, &mut disk, server, setup) {
+            Ok((log, node, rows)) => Ok(NodeStore {
+                disk,
+                server,
+                setup,
+                log,
+                node,
+                rows,
+                down: false,
+                doubt: RecordList::new(alloc),
+            }),
+            Err(fault) => Err(Refused { disk, fault }),
+        }
+    }
+
     /// Whether the server is down.
     pub fn is_down(&self) -> bool
         ensures { IsTrue result ↔ (self.now.up ≡ None) }
@@ -77,7 +127,8 @@ impl<D: Disk> NodeStore<D> {
     /// The next directory number of a server that is up.
     pub fn next_id(&self) -> u64
         requires { (store : StoreV) × (self.now.up ≡ Some store) }
-        ensures { (store : StoreV) → self.now.up ≡ Some store → result ≡ store.node.next }
+        ensures next { (store : StoreV) → self.now.up ≡ Some store → result ≡ store.node.next }
+        ensures own { (store : StoreV) → self.now.up ≡ Some store → IsNodeOf self.now.server self.now.setup store.node }
     {
         self.node.next_id()
     }
