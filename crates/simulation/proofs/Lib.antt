@@ -8,3 +8,12 @@ pub mod Taking
 pub mod Carried
 pub mod Arming
 pub mod Due
+pub mod Standing
+pub mod Outputs
+pub mod Serving
+pub mod Stopping
+pub mod Restarting
+pub mod Changing
+pub mod Handing
+pub mod Reviving
+pub mod Making

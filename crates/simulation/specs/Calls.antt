@@ -50,14 +50,12 @@ pub record CanMiss {X : Type 0} (sim : SimulationV X) (place : ℕ) : Type 0 whe
 abbrev pub RepliesTo : {X : Type 0} → SimulationV X → SimulationV X → ℕ → ℕ → Type 0
 RepliesTo old new place first = (client : ℕ) → is_request_of client (slice_get old.sent place) ≡ true → is_for_client client (slice_get new.sent first) ≡ true
 
--- a Serve that was done sent its first message to this place, or none; one that stopped left its records in doubt, or the
--- device stopped the server before there were any
+-- a Serve that was done sent its first message to this place, or none; one that the device stopped left its records in doubt
 abbrev pub Serves : {X : Type 0} → (X → Contents) → (X → Image → Type 0) → SimulationV X → SimulationV X → ℕ → ℕ → Served → Type 0
 Serves seen images old new server place (serves.Answered first) =
     Happens seen images old new (Serve server (place ∷ []) ends.Done) × (first ≡ length old.sent) × (length old.sent + 1 ≤ length new.sent) × RepliesTo old new place first
 Serves seen images old new server place serves.Silent = Happens seen images old new (Serve server (place ∷ []) ends.Done) × (new.sent ≡ old.sent)
-Serves seen images old new server place serves.Stopped =
-    (new.sent ≡ old.sent) × ((run : RunV) → Shows seen images old run → GoesOn run (Serve server (place ∷ []) ends.Stop) (Shows seen images new) ⊎ GoesOn run (Stop server Device) (Shows seen images new))
+Serves seen images old new server place serves.Stopped = Happens seen images old new (Serve server (place ∷ []) ends.Stop) × (new.sent ≡ old.sent)
 
 -- a server was restarted, with some of its records in doubt; or its device failed
 abbrev pub Restarts : {X : Type 0} → (X → Contents) → (X → Image → Type 0) → SimulationV X → SimulationV X → ℕ → Restarted → Type 0
