@@ -8,3 +8,4 @@ pub mod Taking
 pub mod Carried
 pub mod Arming
 pub mod Due
+pub mod Numbers
