@@ -5,3 +5,4 @@ pub mod Served
 pub mod Replayed
 pub mod ReplayLaw
 pub mod Undoes
+pub mod Planned

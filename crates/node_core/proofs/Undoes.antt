@@ -7,6 +7,7 @@ use Rattle.std.specs.BTreeMap.{is_at}
 use Rattle.std.specs.FinMap as map
 use Rattle.std.proofs.lemmas.Map.Lookups.{exact_unsigned}
 use Rattle.mds_base.proofs.Maps.{insert_apart, remove_apart, get_entries, one_put, one_taken}
+use Rattle.mds_base.specs.declared.attr.Attr.{Attr}
 use Rattle.mds_base.specs.declared.ask.Ask.{Ask}
 use Rattle.mds_base.specs.declared.call.Call.{Call}
 use Rattle.mds_base.specs.declared.reply.Final.{Final}
@@ -16,10 +17,12 @@ use Rattle.records.specs.declared.msg.Msg.TheVariants.{Request, Redirect, Answer
 use Rattle.sessions.specs.declared.kept.Kept.{Kept}
 use Rattle.sessions.specs.Kept.{SessionMap, restored, put_back}
 use Rattle.node_core.specs.declared.part.Part.{Part}
+use Rattle.node_core.specs.declared.part.Edit.{Edit}
 use Rattle.node_core.specs.declared.undo.Undo.{Undo}
 use Rattle.node_core.specs.Nodes.{NodeV, StoreV, PartKey, part_cmp, new_part, session_in, noted_in}
 use Rattle.node_core.specs.Rules.{Asked, ChangeOf, LookOf, NotServed, asked_of, said_in, Outcome, Silent, Looks, Repeats, Carries, outcome}
 use Rattle.node_core.specs.Serving.{serve, served_as, carried_at}
+use Rattle.node_core.specs.Edits.{node_noted}
 use Rattle.node_core.specs.Undoing.{before_in, before_asked, before, part_undone, parts_back, parts_undone, undone}
 use Rattle.node_core.proofs.Keys.{same_or_apart}
 use Rattle.node_core.proofs.Views.{parts_total, exact_parts, insert_here, remove_here}
@@ -93,6 +96,12 @@ own_undone node dir client =
 noted_undone : (node : NodeV) (rows : RowMap) (dir : ℕ) (name : List ℕ) (client seq : ℕ) (call : Call) (said : Final) → undone (noted_in node rows dir 0 name client seq call said) (before_in node dir client) ≡ node
 unfolding session_in noted_in
 noted_undone node rows dir name client seq call said =
+    ap (λ p. record { server = node.server; setup = node.setup; next = node.next; parts = p }) (noted_back node.parts dir client node.next _ (record { seq = seq; said = said }) (map.get node.parts (dir, 0)) refl)
+
+-- a note that is taken back leaves the node
+pub note_undone : (node : NodeV) (dir client seq : ℕ) (said : Final) (edit : Edit) (before : Option Attr) → undone (node_noted node dir client seq said edit before) (before_in node dir client) ≡ node
+unfolding session_in
+note_undone node dir client seq said edit before =
     ap (λ p. record { server = node.server; setup = node.setup; next = node.next; parts = p }) (noted_back node.parts dir client node.next _ (record { seq = seq; said = said }) (map.get node.parts (dir, 0)) refl)
 
 served_undone : (store : StoreV) (ask : Ask) (o : Outcome) (dir : ℕ) (name : List ℕ) → asked_of ask.call ≡ ChangeOf dir name → undone (served_as store ask o).store.node (before_in store.node dir ask.client) ≡ store.node

@@ -4,3 +4,4 @@ pub mod Serving
 pub mod Ranges
 pub mod Edits
 pub mod Undoing
+pub mod Planning

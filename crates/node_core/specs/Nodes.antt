@@ -68,8 +68,11 @@ is_new node = (node.next == first_number node.server) && (map.len node.parts == 
 abbrev pub cleared_part : PartKey × Part → PartKey × Part
 cleared_part entry = (entry.0, record { count = entry.1.count; sessions = map.empty })
 
+abbrev pub parts_cleared : map.FinMap part_cmp Part → map.FinMap part_cmp Part
+parts_cleared parts = map.from_entries (list_map cleared_part (map.entries parts))
+
 abbrev pub cleared : NodeV → NodeV
-cleared node = record { server = node.server; setup = node.setup; next = node.next; parts = map.from_entries (list_map cleared_part (map.entries node.parts)) }
+cleared node = record { server = node.server; setup = node.setup; next = node.next; parts = parts_cleared node.parts }
 
 abbrev pub part_in : NodeV → ℕ → ℕ → Part
 part_in node dir part = unwrap_or (map.get node.parts (dir, part)) new_part

@@ -3,7 +3,7 @@ use Rattle.std.specs.Prelude.{ℕ, ◌^◌, ◌<◌, ◌≤◌}
 use Rattle.mds_base.specs.declared.call.Call.{Call}
 use Rattle.mds_base.specs.declared.call.Call.TheVariants.{Create, Mkdir, Remove, Lookup, Setattr, Scan, Grab, Load, Link}
 use Rattle.records.specs.declared.record.Record.{Record}
-use Rattle.records.specs.declared.record.Record.TheVariants.{Head, Served}
+use Rattle.records.specs.declared.record.Record.TheVariants.{Served}
 use Rattle.records.specs.declared.msg.Msg.{Msg}
 use Rattle.records.specs.declared.msg.Msg.TheVariants.{Request}
 use Rattle.mds_base.specs.declared.setup.Setup.{Setup}
@@ -30,8 +30,7 @@ abbrev pub DirFits : Msg → Type 0
 DirFits (Request server ask cursor) = dir_of ask.call < 2 ^ 48
 DirFits msg = Unit {0}
 
--- a record begins a log, or is that of a change on a directory whose number is within its range
+-- the record of a change is on a directory whose number is within its range
 abbrev pub RecordFits : Record → Type 0
 RecordFits (Served client seq part call said) = dir_of call < 2 ^ 48
-RecordFits (Head format servers server threshold) = Unit {0}
-RecordFits item = ⊥
+RecordFits item = Unit {0}

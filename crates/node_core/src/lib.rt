@@ -11,6 +11,7 @@
 mod law;
 mod node;
 mod part;
+mod plan;
 mod rows;
 #[cfg(test)]
 mod tests;
@@ -20,4 +21,5 @@ mod undo;
 pub use law::{laws_of_replay, laws_of_undo};
 pub use node::Node;
 pub use part::Part;
+pub use plan::Plan;
 pub use undo::Undo;

@@ -1,17 +1,20 @@
-ghost use Rattle.std.specs.Prelude.{◌≡◌, ℕ, ◌+◌, ◌==◌, ◌^◌, ◌<◌, ◌≤◌, OnOk, OnErr, IfOk, true, false, unwrap_or, MatchBool, ◌≢◌};
+ghost use Rattle.std.specs.Prelude.{◌≡◌, ℕ, ◌+◌, ◌==◌, ◌^◌, ◌<◌, ◌≤◌, OnOk, OnErr, IfOk, Some, true, false, unwrap_or, MatchBool, ◌≢◌};
 ghost use Rattle.std.specs.FinMap as map;
 ghost use Rattle.sessions.specs.declared.kept.Judged.{Judged};
 ghost use Rattle.sessions.specs.Kept.{judge_kept};
-ghost use Rattle.node_core.specs.Nodes.{part_cmp, new_part, new_node, owns, session_in, has_numbers};
+ghost use Rattle.node_core.specs.Nodes.{part_cmp, new_part, new_node, owns, session_in, has_numbers, parts_cleared};
 ghost use Rattle.mds_base.specs.RowsCause.{HasRowsCause};
 ghost use Rattle.node_core.specs.Edits.{parts_noted, node_noted, numbers_of};
 ghost use Rattle.node_core.specs.Rules.{ChangeOf, LookOf, asked_of, found};
 ghost use Rattle.records.specs.declared.record.Record.{Record};
+ghost use Rattle.records.specs.declared.msg.Msg.{Msg};
+ghost use Rattle.node_core.specs.Planning.{noted_by, written_by, IsNewer, IsPlanOf, IsPlan};
 ghost use Rattle.node_core.specs.Serving.{serve, serve_ask, IsServed, IsReplayed, may_carry, restarted, is_head};
 ghost use Rattle.node_core.specs.Undoing.{before, before_in, undone};
 ghost use Rattle.node_core.specs.Ranges.{DirFits, RecordFits, dir_of};
 
 use crate::part::{Part, Weighed, weigh};
+use crate::plan::{Change, Plan};
 use crate::rows::{key_of, write};
 use crate::told::{answered, nothing, recorded};
 use crate::undo::{Undo, undo_in};
@@ -72,9 +75,9 @@ impl Node {
     }
 
     /// Serves a message: the records of the changes that were carried out and the messages to send are handed out
-    /// (`docs/DEFINITIONS.md`, "Serving"). Where it is refused the node stays as it is, and the rows may be changed
-    /// in part. It takes a time that grows with the logarithms of the numbers of partitions and of clients, and with
-    /// what its look-up and its write of one row cost.
+    /// (`docs/DEFINITIONS.md`, "Serving"). Where it is refused the node and the rows stay as they are. It takes a time
+    /// that grows with the logarithms of the numbers of partitions and of clients, and with what its look-up and its
+    /// write of one row cost.
     pub fn serve<R: Rows>(
         &mut self,
         alloc: Global,
@@ -86,109 +89,177 @@ impl Node {
         requires moment { now < 2 ^ 43 }
         requires numbers { has_numbers self.old ≡ true }
         ensures ok { IfOk result (λ handled. IsServed (serve (record { node = self.old; rows = R.contents rows.old }) msg.now now) self.new (R.contents rows.new) handled) }
-        ensures err { OnErr result (self.new ≡ self.old) }
+        ensures err { OnErr result ((self.new ≡ self.old) × (R.contents rows.new ≡ R.contents rows.old)) }
+        ensures cause { HasRowsCause (R.faults rows.old) (R.faults rows.new) result }
+    {
+        let plan = self.plan(alloc, rows, msg, now)?;
+        self.make(rows, plan)
+    }
+
+    /// Works a Serve out: what it hands out, and what is to be changed (`docs/DEFINITIONS.md`, "Plan"). Nothing
+    /// changes.
+    pub fn plan<R: Rows>(
+        &self,
+        alloc: Global,
+        rows: &mut R,
+        msg: &Msg,
+        now: u64,
+    ) -> Result<Plan, RowsFault>
+        requires fits { DirFits msg.now }
+        requires moment { now < 2 ^ 43 }
+        ensures ok { IfOk result (λ plan. IsPlan (record { node = self.now; rows = R.contents rows.old }) msg.now now plan) }
+        ensures rows { R.contents rows.new ≡ R.contents rows.old }
         ensures cause { HasRowsCause (R.faults rows.old) (R.faults rows.new) result }
     {
         match msg {
-            Msg::Request { ask, .. } => self.serve_ask(alloc, rows, ask, now),
-            _ => Ok(nothing(alloc)),
+            Msg::Request { ask, .. } => self.plan_ask(alloc, rows, ask, now),
+            _ => Ok(Plan::unchanging(nothing(alloc))),
         }
     }
 
-    fn serve_ask<R: Rows>(
-        &mut self,
+    /// Makes a plan that was worked out against this node and these rows, as they still are, and hands out what
+    /// serving hands out. Where it is refused the node and the rows stay as they are.
+    pub fn make<R: Rows>(&mut self, rows: &mut R, plan: Plan) -> Result<Handled, RowsFault>
+        requires planned { (msg : Msg) × (now : ℕ) × IsPlan (record { node = self.old; rows = R.contents rows.old }) msg now plan }
+        requires numbers { has_numbers self.old ≡ true }
+        ensures ok { IfOk result (λ handled. (msg : Msg) → (now : ℕ) → IsPlan (record { node = self.old; rows = R.contents rows.old }) msg now plan → IsServed (serve (record { node = self.old; rows = R.contents rows.old }) msg now) self.new (R.contents rows.new) handled) }
+        ensures handed_out { IfOk result (λ handled. handled ≡ plan.handled) }
+        ensures err { OnErr result ((self.new ≡ self.old) × (R.contents rows.new ≡ R.contents rows.old)) }
+        ensures cause { HasRowsCause (R.faults rows.old) (R.faults rows.new) result }
+    {
+        let Plan { handled, change } = plan;
+        match change {
+            None => Ok(handled),
+            Some(change) => {
+                self.change(rows, change)?;
+                Ok(handled)
+            }
+        }
+    }
+
+    // Notes a change and writes its row. The note comes first, since it can be taken back without memory.
+    fn change<R: Rows>(&mut self, rows: &mut R, change: Change) -> Result<(), RowsFault>
+        requires newer { IsNewer self.old (Some change) }
+        requires numbers { has_numbers self.old ≡ true }
+        ensures node { OnOk result (self.new ≡ noted_by self.old (Some change)) }
+        ensures rows { OnOk result (R.contents rows.new ≡ written_by (R.contents rows.old) (Some change)) }
+        ensures err { OnErr result ((self.new ≡ self.old) × (R.contents rows.new ≡ R.contents rows.old)) }
+        ensures cause { HasRowsCause (R.faults rows.old) (R.faults rows.new) result }
+    {
+        let Change {
+            alloc,
+            key,
+            weighed,
+            before,
+            dir,
+            client,
+            seq,
+        } = change;
+        let undo = self.before_in(dir, client);
+        self.note(alloc, dir, client, seq, weighed, before)?;
+        match write(rows, key, weighed.edit) {
+            Ok(()) => Ok(()),
+            Err(fault) => {
+                self.undo(undo);
+                Err(fault)
+            }
+        }
+    }
+
+    fn plan_ask<R: Rows>(
+        &self,
         alloc: Global,
         rows: &mut R,
         ask: &Ask,
         now: u64,
-    ) -> Result<Handled, RowsFault>
+    ) -> Result<Plan, RowsFault>
         requires fits { dir_of ask.now.call < 2 ^ 48 }
         requires moment { now < 2 ^ 43 }
-        requires numbers { has_numbers self.old ≡ true }
-        ensures ok { IfOk result (λ handled. IsServed (serve_ask (record { node = self.old; rows = R.contents rows.old }) ask.now now) self.new (R.contents rows.new) handled) }
-        ensures err { OnErr result (self.new ≡ self.old) }
+        ensures ok { IfOk result (λ plan. IsPlanOf (record { node = self.now; rows = R.contents rows.old }) (serve_ask (record { node = self.now; rows = R.contents rows.old }) ask.now now) plan) }
+        ensures rows { R.contents rows.new ≡ R.contents rows.old }
         ensures cause { HasRowsCause (R.faults rows.old) (R.faults rows.new) result }
     {
         match &ask.call {
-            Call::Create { dir, name } => self.change(alloc, rows, ask, *dir, name, now),
-            Call::Mkdir { dir, name } => self.change(alloc, rows, ask, *dir, name, now),
-            Call::Remove { dir, name } => self.change(alloc, rows, ask, *dir, name, now),
-            Call::Setattr { dir, name, .. } => self.change(alloc, rows, ask, *dir, name, now),
-            Call::Lookup { dir, name } => self.look(alloc, rows, ask, *dir, name, now),
-            Call::Scan { .. } => Ok(nothing(alloc)),
-            Call::Grab { .. } => Ok(nothing(alloc)),
-            Call::Load { .. } => Ok(nothing(alloc)),
-            Call::Link { .. } => Ok(nothing(alloc)),
+            Call::Create { dir, name } => self.plan_change(alloc, rows, ask, *dir, name, now),
+            Call::Mkdir { dir, name } => self.plan_change(alloc, rows, ask, *dir, name, now),
+            Call::Remove { dir, name } => self.plan_change(alloc, rows, ask, *dir, name, now),
+            Call::Setattr { dir, name, .. } => self.plan_change(alloc, rows, ask, *dir, name, now),
+            Call::Lookup { dir, name } => self.plan_look(alloc, rows, ask, *dir, name, now),
+            Call::Scan { .. } => Ok(Plan::unchanging(nothing(alloc))),
+            Call::Grab { .. } => Ok(Plan::unchanging(nothing(alloc))),
+            Call::Load { .. } => Ok(Plan::unchanging(nothing(alloc))),
+            Call::Link { .. } => Ok(Plan::unchanging(nothing(alloc))),
         }
     }
 
-    fn look<R: Rows>(
-        &mut self,
+    fn plan_look<R: Rows>(
+        &self,
         alloc: Global,
         rows: &mut R,
         ask: &Ask,
         dir: u64,
         name: &Name,
         now: u64,
-    ) -> Result<Handled, RowsFault>
+    ) -> Result<Plan, RowsFault>
         requires asked { asked_of ask.now.call ≡ LookOf dir name.now }
         requires fits { dir < 2 ^ 48 }
         requires moment { now < 2 ^ 43 }
-        ensures ok { IfOk result (λ handled. IsServed (serve_ask (record { node = self.old; rows = R.contents rows.old }) ask.now now) self.new (R.contents rows.new) handled) }
-        ensures err { OnErr result (self.new ≡ self.old) }
+        ensures ok { IfOk result (λ plan. IsPlanOf (record { node = self.now; rows = R.contents rows.old }) (serve_ask (record { node = self.now; rows = R.contents rows.old }) ask.now now) plan) }
+        ensures rows { R.contents rows.new ≡ R.contents rows.old }
         ensures cause { HasRowsCause (R.faults rows.old) (R.faults rows.new) result }
     {
         if !self.owns(dir) {
-            return Ok(nothing(alloc));
+            return Ok(Plan::unchanging(nothing(alloc)));
         }
         let key = key_of(alloc, dir, name)?;
         let attr = rows.get(&key)?;
         let until = now + self.setup.lease;
         let handled = answered(alloc, ask, found(attr, until))?;
-        Ok(handled)
+        Ok(Plan::unchanging(handled))
     }
 
-    fn change<R: Rows>(
-        &mut self,
+    fn plan_change<R: Rows>(
+        &self,
         alloc: Global,
         rows: &mut R,
         ask: &Ask,
         dir: u64,
         name: &Name,
         now: u64,
-    ) -> Result<Handled, RowsFault>
+    ) -> Result<Plan, RowsFault>
         requires asked { asked_of ask.now.call ≡ ChangeOf dir name.now }
         requires fits { dir < 2 ^ 48 }
-        requires numbers { has_numbers self.old ≡ true }
-        ensures ok { IfOk result (λ handled. IsServed (serve_ask (record { node = self.old; rows = R.contents rows.old }) ask.now now) self.new (R.contents rows.new) handled) }
-        ensures err { OnErr result (self.new ≡ self.old) }
+        ensures ok { IfOk result (λ plan. IsPlanOf (record { node = self.now; rows = R.contents rows.old }) (serve_ask (record { node = self.now; rows = R.contents rows.old }) ask.now now) plan) }
+        ensures rows { R.contents rows.new ≡ R.contents rows.old }
         ensures cause { HasRowsCause (R.faults rows.old) (R.faults rows.new) result }
     {
         if !self.owns(dir) {
-            return Ok(nothing(alloc));
+            return Ok(Plan::unchanging(nothing(alloc)));
         }
         match self.judge(dir, ask.client, ask.seq) {
-            Judged::New => self.carry(alloc, rows, ask, dir, name, now),
-            Judged::Again(said) => Ok(answered(alloc, ask, Reply::Said(said))?),
-            Judged::Old { .. } => Ok(nothing(alloc)),
+            Judged::New => self.plan_new(alloc, rows, ask, dir, name, now),
+            Judged::Again(said) => {
+                let handled = answered(alloc, ask, Reply::Said(said))?;
+                Ok(Plan::unchanging(handled))
+            }
+            Judged::Old { .. } => Ok(Plan::unchanging(nothing(alloc))),
         }
     }
 
-    fn carry<R: Rows>(
-        &mut self,
+    fn plan_new<R: Rows>(
+        &self,
         alloc: Global,
         rows: &mut R,
         ask: &Ask,
         dir: u64,
         name: &Name,
         now: u64,
-    ) -> Result<Handled, RowsFault>
+    ) -> Result<Plan, RowsFault>
         requires asked { asked_of ask.now.call ≡ ChangeOf dir name.now }
-        requires own { owns self.old dir 0 ≡ true }
-        requires newer { judge_kept (session_in self.old dir 0 ask.now.client) ask.now.seq ≡ Judged.New }
-        requires numbers { has_numbers self.old ≡ true }
-        ensures ok { IfOk result (λ handled. IsServed (serve_ask (record { node = self.old; rows = R.contents rows.old }) ask.now now) self.new (R.contents rows.new) handled) }
-        ensures err { OnErr result (self.new ≡ self.old) }
+        requires own { owns self.now dir 0 ≡ true }
+        requires newer { judge_kept (session_in self.now dir 0 ask.now.client) ask.now.seq ≡ Judged.New }
+        ensures ok { IfOk result (λ plan. IsPlanOf (record { node = self.now; rows = R.contents rows.old }) (serve_ask (record { node = self.now; rows = R.contents rows.old }) ask.now now) plan) }
+        ensures rows { R.contents rows.new ≡ R.contents rows.old }
         ensures cause { HasRowsCause (R.faults rows.old) (R.faults rows.new) result }
     {
         let _moment = now;
@@ -196,14 +267,24 @@ impl Node {
         let before = rows.get(&key)?;
         let weighed = weigh(&ask.call, before, self.next);
         let handled = recorded(alloc, ask, weighed.said)?;
-        write(rows, key, weighed.edit)?;
-        self.note(alloc, dir, ask.client, ask.seq, weighed, before)?;
-        Ok(handled)
+        let change = Change {
+            alloc,
+            key,
+            weighed,
+            before,
+            dir,
+            client: ask.client,
+            seq: ask.seq,
+        };
+        Ok(Plan {
+            handled,
+            change: Some(change),
+        })
     }
 
-    /// Replays the record of a change, and answers true exactly where it may follow (`docs/DEFINITIONS.md`, "Records
-    /// that may follow"); else nothing changes. Where it is refused the node stays as it is, and the rows may be changed in
-    /// part.
+    /// Replays a record, and answers true exactly where it may follow (`docs/DEFINITIONS.md`, "Records that may
+    /// follow"); else nothing changes. Where it is refused the node and the rows stay as they are. A change takes what
+    /// serving it takes; the beginning of a run takes a time that grows with the number of sessions, and no memory.
     pub fn replay<R: Rows>(
         &mut self,
         alloc: Global,
@@ -212,7 +293,7 @@ impl Node {
     ) -> Result<bool, RowsFault>
         requires fits { RecordFits item.now }
         ensures ok { IfOk result (λ follows. IsReplayed (record { node = self.old; rows = R.contents rows.old }) item.now self.new (R.contents rows.new) follows) }
-        ensures err { OnErr result (self.new ≡ self.old) }
+        ensures err { OnErr result ((self.new ≡ self.old) × (R.contents rows.new ≡ R.contents rows.old)) }
         ensures cause { HasRowsCause (R.faults rows.old) (R.faults rows.new) result }
     {
         match item {
@@ -229,7 +310,10 @@ impl Node {
                 server,
                 threshold,
             } => Ok(self.heads(*format, *servers, *server, *threshold)),
-            Record::Opened => Ok(false),
+            Record::Opened => {
+                clear_in(&mut self.parts);
+                Ok(true)
+            }
         }
     }
 
@@ -253,7 +337,7 @@ impl Node {
     ) -> Result<bool, RowsFault>
         requires fits { dir_of call.now < 2 ^ 48 }
         ensures ok { IfOk result (λ follows. IsReplayed (record { node = self.old; rows = R.contents rows.old }) (Record.Served client seq part call.now said) self.new (R.contents rows.new) follows) }
-        ensures err { OnErr result (self.new ≡ self.old) }
+        ensures err { OnErr result ((self.new ≡ self.old) × (R.contents rows.new ≡ R.contents rows.old)) }
         ensures cause { HasRowsCause (R.faults rows.old) (R.faults rows.new) result }
     {
         match call {
@@ -292,7 +376,7 @@ impl Node {
         requires asked { asked_of call.now ≡ ChangeOf dir name.now }
         requires fits { dir < 2 ^ 48 }
         ensures ok { IfOk result (λ follows. IsReplayed (record { node = self.old; rows = R.contents rows.old }) (Record.Served client seq part call.now said) self.new (R.contents rows.new) follows) }
-        ensures err { OnErr result (self.new ≡ self.old) }
+        ensures err { OnErr result ((self.new ≡ self.old) × (R.contents rows.new ≡ R.contents rows.old)) }
         ensures cause { HasRowsCause (R.faults rows.old) (R.faults rows.new) result }
     {
         if !self.may_carry(dir, client, seq, part) {
@@ -304,8 +388,16 @@ impl Node {
         if differs(weighed.said, said) {
             return Ok(false);
         }
-        write(rows, key, weighed.edit)?;
-        self.note(alloc, dir, client, seq, weighed, before)?;
+        let change = Change {
+            alloc,
+            key,
+            weighed,
+            before,
+            dir,
+            client,
+            seq,
+        };
+        self.change(rows, change)?;
         Ok(true)
     }
 
@@ -458,6 +550,16 @@ fn note_in(
     part.note(client, seq, weighed, before)?;
     parts.insert((dir, 0), part)?;
     Ok(())
+}
+
+// Forgets the sessions of all partitions. It takes no memory.
+fn clear_in(parts: &mut BTreeMap<(u64, u32), Part>)
+    ensures { map.from_entries {R = part_cmp} parts.new.entries ≡ parts_cleared (map.from_entries parts.old.entries) }
+{
+    parts.retain(|_, part| {
+        part.sessions.clear();
+        true
+    });
 }
 
 fn numbers_of(said: Final) -> u64

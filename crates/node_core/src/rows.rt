@@ -20,9 +20,10 @@ pub fn key_of(alloc: Global, dir: u64, name: &Name) -> Result<RowKey, AllocError
     })
 }
 
-/// Makes an edit at a key.
+/// Makes an edit at a key. Where it is refused the rows stay as they are.
 pub fn write<R: Rows>(rows: &mut R, key: RowKey, edit: Edit) -> Result<(), RowsFault>
     ensures ok { OnOk result (R.contents rows.new ≡ edited_rows (R.contents rows.old) key (edit_of edit)) }
+    ensures err { OnErr result (R.contents rows.new ≡ R.contents rows.old) }
     ensures cause { HasRowsCause (R.faults rows.old) (R.faults rows.new) result }
 {
     match edit {

@@ -1,3 +1,9 @@
-pub mod Standing
+pub mod OpeningLaws
+pub mod OpeningMoments
+pub mod ReadingLogs
+pub mod ReadingNodes
+pub mod ReadingRecords
+pub mod Restarting
 pub mod Serving
+pub mod Standing
 pub mod Stores

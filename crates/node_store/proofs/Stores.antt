@@ -1,76 +1,81 @@
 -- A server on a disk: what its parts say of it.
-use Rattle.std.proofs.Common.{◌≡◌, ◌∙◌, sym, ap, subst, refl, ℕ, ◌^◌, ◌<◌, List, Bool, true, false, cond, arith, Option, Some, None, inl, inr, ◌⊎◌}
-use Rattle.mds_base.specs.declared.call.Call.{Call}
+use Rattle.std.proofs.Common.{◌≡◌, ◌∙◌, sym, ap, subst, refl, ℕ, List, [], Bool, true, false, cond, arith, Option, Some, None, inl, inr, ◌⊎◌}
 use Rattle.mds_base.specs.declared.setup.Setup.{Setup}
-use Rattle.mds_base.specs.declared.store_fault.StoreFault.TheVariants as faults
-use Rattle.gate_log.specs.declared.gate_log.LogFault.{LogFault}
-use Rattle.gate_log.specs.declared.gate_log.LogFault.TheVariants.{Device, Stopped, BadLog, OutOfMemory}
+use Rattle.records.specs.declared.record.Record.{Record}
 use Rattle.gate_log.specs.Log.{HoldsLog}
 use Rattle.gate_log.specs.LogState as logs
 use Rattle.gate_log.specs.LogState.{LogState}
 use Rattle.mds_out.specs.Disk.{Image, Contents, Lengths, LeavesOnly}
-use Rattle.mds_out.specs.Fault.{Rose}
 use Rattle.mds_out.specs.Known.{OnTold}
-use Rattle.node_store.specs.Node.{NodeState}
-use Rattle.node_store.specs.Refused.{fault_of}
-use Rattle.node_store.specs.Serve.{HasRoom, node_with}
-use Rattle.node_store.specs.Store.{Store, HoldsNode, IsKept, KeepsNode, StandsForEither}
+use Rattle.mds_out.proofs.Moments.{started}
+use Rattle.node_core.specs.Nodes.{StoreV}
+use Rattle.node_store.specs.Stands.{FileStandsFor, opened_store}
+use Rattle.node_store.specs.Store.{Store, HoldsStore, IsKept, LeavesDoubt, IsDownAt, KeepsStore, StandsForEither}
 
-abbrev some_node : NodeState → Option NodeState
-some_node node = Some node
+-- ---- what the disk keeps
 
--- a server that is up with a node
-pub was_up : (down : Bool) (inside node : NodeState) → cond down None (Some inside) ≡ Some node → (down ≡ false) × (inside ≡ node)
-was_up true inside node e = absurd (let h : None ≡ some_node node = e in cc)
-was_up false inside node e = let h : some_node inside ≡ Some node = e in (refl, cc)
-
-pub low_numbers : (server : ℕ) (node : NodeState) → server < 32 → HasRoom server node → node.next < 2 ^ 47
-low_numbers server node few room = omega arith
-
-keeps_told : (told : Option (List ℕ)) (images : Image → Type 0) (server : ℕ) (setup : Setup) (log : LogState) (node : NodeState) → log.file ≡ 1 → OnTold told (logs.IsKept log images) → OnTold told (HoldsNode server setup log node) → OnTold told (λ _. KeepsNode images server setup node)
-keeps_told None images server setup log node file kept holds = tt
-keeps_told (Some bytes) images server setup log node file kept holds = λ image is.
+keeps_told : (told : Option (List ℕ)) (images : Image → Type 0) (server : ℕ) (setup : Setup) (log : LogState) (store : StoreV) → log.file ≡ 1 → OnTold told (logs.IsKept log images) → OnTold told (HoldsStore server setup log store) → OnTold told (λ _. KeepsStore images server setup store)
+keeps_told None images server setup log store file kept holds = tt
+keeps_told (Some bytes) images server setup log store file kept holds = λ image is.
     let same : image 1 ≡ bytes = ap image (sym file) ∙ kept.durable image is in
     inr (holds.bodies, subst (λ (b : List ℕ). HoldsLog holds.bodies b) (sym same) holds.is.holds, holds.stands)
 
--- each image of the disk of a server that is up stands for its node
-pub keeps_node : (seen : Contents) (sizes : Lengths) (images : Image → Type 0) (server : ℕ) (setup : Setup) (log : LogState) (node : NodeState) → IsKept seen sizes images server setup log node → OnTold (seen 1) (λ _. KeepsNode images server setup node)
-keeps_node seen sizes images server setup log node k = keeps_told (seen 1) images server setup log node k.file (subst (λ (f : ℕ). OnTold (seen f) (logs.IsKept log images)) k.file k.ready.told) k.holds
+-- each image of the disk of a server that is up stands for its store
+pub keeps_store : (seen : Contents) (sizes : Lengths) (images : Image → Type 0) (server : ℕ) (setup : Setup) (log : LogState) (store : StoreV) → IsKept seen sizes images server setup log store → OnTold (seen 1) (λ _. KeepsStore images server setup store)
+keeps_store seen sizes images server setup log store k = keeps_told (seen 1) images server setup log store k.file (subst (λ (f : ℕ). OnTold (seen f) (logs.IsKept log images)) k.file k.ready.told) k.holds
 
-leaves_told : {D : Type 0} (moment : D → ℕ) (since : D → ℕ → Image → Type 0) (images : Image → Type 0) (a : D) (told : Option (List ℕ)) (server : ℕ) (setup : Setup) (node next : NodeState) → ((image : Image) → since a (moment a) image → images image) → OnTold told (λ _. KeepsNode images server setup node) → OnTold told (λ _. LeavesOnly moment since a a (StandsForEither server setup node next))
-leaves_told moment since images a None server setup node next now keeps = tt
-leaves_told moment since images a (Some bytes) server setup node next now keeps = record { later = omega arith; each = λ image s. inl (keeps image (now image s)); before = λ t image le s. inl s }
+still_told : {D : Type 0} (moment : D → ℕ) (since : D → ℕ → Image → Type 0) (images : Image → Type 0) (a : D) (told : Option (List ℕ)) (server : ℕ) (setup : Setup) (store next : StoreV) → ((image : Image) → since a (moment a) image → images image) → OnTold told (λ _. KeepsStore images server setup store) → OnTold told (λ _. LeavesOnly moment since a a (StandsForEither server setup store next))
+still_told moment since images a None server setup store next now keeps = tt
+still_told moment since images a (Some bytes) server setup store next now keeps = started moment since a (StandsForEither server setup store next) (λ image left. inl (keeps image (now image left)))
 
--- where nothing was done to the disk it keeps the node at each moment
-pub nothing_done : {D : Type 0} (moment : D → ℕ) (since : D → ℕ → Image → Type 0) (seen : Contents) (sizes : Lengths) (images : Image → Type 0) (a b : D) (server : ℕ) (setup : Setup) (log : LogState) (node next : NodeState) → b ≡ a → ((image : Image) → since a (moment a) image → images image) → IsKept seen sizes images server setup log node → OnTold (seen 1) (λ _. LeavesOnly moment since a b (StandsForEither server setup node next))
-nothing_done moment since seen sizes images a b server setup log node next same now k =
-    subst (λ d. OnTold (seen 1) (λ _. LeavesOnly moment since a d (StandsForEither server setup node next))) (sym same) (leaves_told moment since images a (seen 1) server setup node next now (keeps_node seen sizes images server setup log node k))
+-- where nothing was done to the disk it keeps the store at each moment
+pub nothing_done : {D : Type 0} (moment : D → ℕ) (since : D → ℕ → Image → Type 0) (seen : Contents) (sizes : Lengths) (images : Image → Type 0) (a : D) (server : ℕ) (setup : Setup) (log : LogState) (store next : StoreV) → ((image : Image) → since a (moment a) image → images image) → IsKept seen sizes images server setup log store
+    → OnTold (seen 1) (λ _. LeavesOnly moment since a a (StandsForEither server setup store next))
+nothing_done moment since seen sizes images a server setup log store next now k = still_told moment since images a (seen 1) server setup store next now (keeps_store seen sizes images server setup log store k)
 
--- at each moment the disk stands for the one node or the other
-pub at_each_moment : {D : Type 0} (moment : D → ℕ) (since : D → ℕ → Image → Type 0) (seen : Contents) (sizes : Lengths) (images : Image → Type 0) (a b : D) (server : ℕ) (setup : Setup) (log : LogState) (node next : NodeState) → ((image : Image) → since a (moment a) image → images image) → IsKept seen sizes images server setup log node
-    → (b ≡ a) ⊎ OnTold (seen 1) (λ _. LeavesOnly moment since a b (StandsForEither server setup node next)) → OnTold (seen 1) (λ _. LeavesOnly moment since a b (StandsForEither server setup node next))
-at_each_moment moment since seen sizes images a b server setup log node next now k (inl same) = nothing_done moment since seen sizes images a b server setup log node next same now k
-at_each_moment moment since seen sizes images a b server setup log node next now k (inr leaves) = leaves
+down_told : (told : Option (List ℕ)) (images : Image → Type 0) (server : ℕ) (setup : Setup) (log : LogState) (store : StoreV) → log.file ≡ 1 → OnTold told (logs.IsKept log images) → OnTold told (HoldsStore server setup log store) → OnTold told (λ _. LeavesDoubt images server setup log store [])
+down_told None images server setup log store file kept holds = tt
+down_told (Some bytes) images server setup log store file kept holds = record {
+  bodies = holds.bodies;
+  stands = holds.stands;
+  ends = holds.is.ends;
+  follow = refl;
+  each = λ image is. let same : image 1 ≡ bytes = ap image (sym file) ∙ kept.durable image is in inl (subst (λ (b : List ℕ). HoldsLog holds.bodies b) (sym same) holds.is.holds);
+}
+
+-- the disk of a server that was up owes it its store once it is down
+pub down_at : {D : Type 0} (seen : D → Contents) (sizes : D → Lengths) (images : D → Image → Type 0) (disk : D) (server : ℕ) (setup : Setup) (log : LogState) (store : StoreV) (doubt : List Record) → IsKept (seen disk) (sizes disk) (images disk) server setup log store → doubt ≡ []
+    → IsDownAt seen images (record { disk = disk; server = server; setup = setup; log = log; up = None; doubt = doubt }) store
+down_at seen sizes images disk server setup log store doubt k sure = record {
+  down = refl;
+  told = subst (λ (d : List Record). OnTold (seen disk 1) (λ _. LeavesDoubt (images disk) server setup log store d)) (sym sure)
+      (down_told (seen disk 1) (images disk) server setup log store k.file (subst (λ (f : ℕ). OnTold (seen disk f) (logs.IsKept log (images disk))) k.file k.ready.told) k.holds);
+}
+
+-- ---- the parts and the store that they show
+
+abbrev some_store : StoreV → Option StoreV
+some_store store = Some store
+
+-- a server that is up with a store
+pub was_up : (down : Bool) (inside store : StoreV) → cond down None (Some inside) ≡ Some store → (down ≡ false) × (inside ≡ store)
+was_up true inside store e = absurd (let h : None ≡ some_store store = e in cc)
+was_up false inside store e = let h : some_store inside ≡ Some store = e in (refl, cc)
 
 -- the store that a server's parts show
-abbrev pub shown : {D : Type 0} → D → ℕ → Setup → LogState → NodeState → Bool → Store D
-shown disk server setup log inside down = record { disk = disk; server = server; setup = setup; log = log; up = cond down None (Some inside) }
+abbrev pub shown : {D : Type 0} → D → ℕ → Setup → LogState → StoreV → Bool → List Record → Store D
+shown disk server setup log inside down doubt = record { disk = disk; server = server; setup = setup; log = log; up = cond down None (Some inside); doubt = doubt }
 
--- a call of a server that is up leaves the disk standing for the one node or the other
-pub moments_of : {D : Type 0} (moment : D → ℕ) (since : D → ℕ → Image → Type 0) (seen : D → Contents) (sizes : D → Lengths) (images : D → Image → Type 0) (disk after : D) (server : ℕ) (setup : Setup) (log : LogState) (inside : NodeState) (down : Bool) (view : Store D) (call : Call)
-    → shown disk server setup log inside down ≡ view → ((image : Image) → since disk (moment disk) image → images disk image) → (down ≡ false → IsKept (seen disk) (sizes disk) (images disk) server setup log inside)
-    → (IsKept (seen disk) (sizes disk) (images disk) server setup log inside → (after ≡ disk) ⊎ OnTold (seen disk 1) (λ _. LeavesOnly moment since disk after (StandsForEither server setup inside (node_with call inside))))
-    → (node : NodeState) → view.up ≡ Some node → OnTold (seen view.disk 1) (λ _. LeavesOnly moment since view.disk after (StandsForEither view.server view.setup node (node_with call node)))
-moments_of moment since seen sizes images disk after server setup log inside down view call view_is now inv leaves =
-    subst (λ (v : Store _). (node : NodeState) → v.up ≡ Some node → OnTold (seen v.disk 1) (λ _. LeavesOnly moment since v.disk after (StandsForEither v.server v.setup node (node_with call node)))) view_is
-    (λ node is.
-    let was = was_up down inside node is in
-    subst (λ (n : NodeState). OnTold (seen disk 1) (λ _. LeavesOnly moment since disk after (StandsForEither server setup n (node_with call n)))) was.1
-    (at_each_moment moment since (seen disk) (sizes disk) (images disk) disk after server setup log inside (node_with call inside) now (inv was.0) (leaves (inv was.0))))
+-- what holds of the parts where the server is up holds of the store that they show
+pub at_up : {D : Type 0} (P : Store D → StoreV → Type 0) (disk : D) (server : ℕ) (setup : Setup) (log : LogState) (inside : StoreV) (down : Bool) (doubt : List Record) (view : Store D) → shown disk server setup log inside down doubt ≡ view
+    → (down ≡ false → P view inside) → (store : StoreV) → view.up ≡ Some store → P view store
+at_up P disk server setup log inside down doubt view is holds store up =
+    let was = was_up down inside store (ap (λ (v : Store _). v.up) is ∙ up) in
+    subst (λ (s : StoreV). P view s) was.1 (holds was.0)
 
--- the store's answer where the disk refused
-pub device_rose : (before now : ℕ) (fault : LogFault) → (fault ≡ Device → Rose before now) → fault_of fault ≡ faults.Device → Rose before now
-device_rose before now Device rose is = rose refl
-device_rose before now Stopped rose is = absurd cc
-device_rose before now (BadLog place) rose is = absurd cc
-device_rose before now OutOfMemory rose is = absurd cc
+-- ---- an opened store
+
+pub opened_told : (told : Option (List ℕ)) (server : ℕ) (setup : Setup) (new : StoreV) → OnTold told (λ bytes. (store : StoreV) × FileStandsFor server setup bytes store × (new ≡ opened_store store))
+    → OnTold told (λ bytes. (store : StoreV) × FileStandsFor server setup bytes store × (Some new ≡ Some (opened_store store)))
+opened_told None server setup new opened = tt
+opened_told (Some bytes) server setup new opened = (opened.0, opened.1, ap (λ (s : StoreV). Some s) opened.2)

@@ -8,10 +8,13 @@ use Rattle.mds_base.specs.declared.store_fault.StoreFault.TheVariants.{Device}
 use Rattle.records.specs.declared.handled.Handled.{Handled}
 use Rattle.records.specs.declared.msg.Msg.{Msg}
 use Rattle.records.specs.declared.msg.Msg.TheVariants.{Request}
+use Rattle.records.specs.declared.record.Record.{Record}
 use Rattle.records.specs.Spelling.{IsDirectory, IsChange}
+use Rattle.mds_out.specs.Disk.{Image, Contents}
 use Rattle.mds_out.specs.Fault.{Rose}
 use Rattle.node_core.specs.Nodes.{StoreV}
-use Rattle.node_core.specs.Serving.{ServedV, serve}
+use Rattle.node_core.specs.Serving.{ServedV}
+use Rattle.node_store.specs.Store.{Store, IsDownAt}
 
 -- a call that is well made
 abbrev pub IsWellMade : Call → Type 0
@@ -35,11 +38,21 @@ abbrev pub IsMessage : Msg → Type 0
 IsMessage (Request server ask cursor) = IsAsked ask
 IsMessage msg = Unit {0}
 
+-- the one message of a batch
+pub record IsOneMessage (msgs : List Msg) (msg : Msg) : Type 0 where
+  pub one : msgs ≡ msg ∷ []
+  pub made : IsMessage msg
+
 -- what serving gave is what the specification says, and the server is up with it
 pub record HasServed (served : ServedV) (up : Option StoreV) (handled : Handled) : Type 0 where
   pub up' : up ≡ Some served.store
   pub records : handled.records ≡ served.records
   pub outputs : handled.outputs ≡ served.outputs
+
+-- a server that was up at this store went down, and these records are in doubt
+pub record HasStopped {D : Type 0} (seen : D → Contents) (images : D → Image → Type 0) (s : Store D) (store : StoreV) (records : List Record) : Type 0 where
+  pub doubt : s.doubt ≡ records
+  pub at : IsDownAt seen images s store
 
 -- all the records in doubt were kept, or none
 abbrev pub IsAllOrNone : ℕ → ℕ → Type 0

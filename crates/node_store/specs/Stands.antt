@@ -57,6 +57,10 @@ IsNewFile file = (length file < 2) ⊎ HoldsLog [] file
 abbrev pub FileStandsFor : ℕ → Setup → List ℕ → StoreV → Type 0
 FileStandsFor server setup file store = (IsNewFile file × (store ≡ new_store server setup)) ⊎ ((bodies : List (List ℕ)) × HoldsLog bodies file × StandFor server setup bodies store)
 
+-- the file's log stands for no store
+abbrev pub StandsForNone : ℕ → Setup → List ℕ → Type 0
+StandsForNone server setup file = (bodies : List (List ℕ)) → (store : StoreV) → HoldsLog bodies file → StandFor server setup bodies store → ⊥
+
 -- a store once its server was opened for a new run
 abbrev pub opened_store : StoreV → StoreV
 opened_store store = replayed store Opened

@@ -1,14 +1,14 @@
 -- A server on a disk.
-use Rattle.std.specs.Prelude.{◌≡◌, ℕ, List, [], ◌∷◌, ◌++◌, Bool, true, false, Option, Some, None, ◌⊎◌}
+use Rattle.std.specs.Prelude.{◌≡◌, ℕ, List, [], ◌∷◌, ◌++◌, map, Bool, true, false, Option, Some, None, ◌⊎◌}
 use Rattle.mds_base.specs.declared.setup.Setup.{Setup}
 use Rattle.records.specs.declared.record.Record.{Record}
 use Rattle.gate_log.specs.Log.{HoldsLog, log_length}
 use Rattle.gate_log.specs.LogState.{LogState, IsReady, IsLogOf}
-use Rattle.mds_out.specs.Disk.{Image, Contents, Lengths}
+use Rattle.mds_out.specs.Disk.{Image, Contents, Lengths, LeavesOnly}
 use Rattle.mds_out.specs.Known.{OnTold}
 use Rattle.node_core.specs.Nodes.{StoreV}
 use Rattle.node_core.specs.Serving.{replayed_all}
-use Rattle.node_store.specs.Stands.{StandFor, FileStandsFor, IsBody, all_follow}
+use Rattle.node_store.specs.Stands.{StandFor, FileStandsFor, IsBody, all_follow, opened_store}
 
 -- the disk, whose server it is, its log, its node and rows where it is up, and its records in doubt
 pub record Store (D : Type 0) : Type 0 where
@@ -70,3 +70,9 @@ StandsForAny server setup (store ∷ stores) file = FileStandsFor server setup f
 -- each image of the disk stands for one of the stores
 abbrev pub KeepsAny : (Image → Type 0) → ℕ → Setup → List StoreV → Type 0
 KeepsAny images server setup stores = (image : Image) → images image → StandsForAny server setup stores (image 1)
+
+-- Where the file was told: whichever stores each image stood for one of before, a crash at any moment since leaves an
+-- image that stands for one of them, or for one of them opened.
+abbrev pub LeavesOpened : {D : Type 0} → (D → ℕ) → (D → ℕ → Image → Type 0) → Contents → (Image → Type 0) → ℕ → Setup → D → D → Type 0
+LeavesOpened moment since seen images server setup old new =
+    OnTold (seen 1) (λ _. (stores : List StoreV) → KeepsAny images server setup stores → LeavesOnly moment since old new (λ image. StandsForAny server setup (stores ++ map opened_store stores) (image 1)))

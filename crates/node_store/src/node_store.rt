@@ -1,48 +1,61 @@
-ghost use Rattle.std.specs.Prelude.{◌≡◌, ◌^◌, ◌<◌, ℕ, ◌⊎◌, None, Some, IfOk, IfErr, OnOk, OnErr, IsErrOf, IsTrue, ◌↔◌};
-ghost use Rattle.mds_base.specs.declared.ask.Ask.{Ask};
+ghost use Rattle.std.specs.Prelude.{◌≡◌, ◌^◌, ◌<◌, ◌≤◌, ℕ, ◌⊎◌, [], None, Some, true, IfOk, IfErr, OnOk, OnErr, IsErrOf, MatchResult, IsTrue, ◌↔◌};
 ghost use Rattle.mds_base.specs.declared.store_fault.StoreFault.TheVariants as StoreFault;
+ghost use Rattle.records.specs.declared.msg.Msg.{Msg};
 ghost use Rattle.records.specs.Spelling.{IsHead};
+ghost use Rattle.gate_log.specs.Calls.{StaysTold};
 ghost use Rattle.mds_out.specs.Fault.{Rose};
 ghost use Rattle.mds_out.specs.Known.{OnTold};
 ghost use Rattle.mds_out.specs.Disk.{LeavesOnly};
-ghost use Rattle.node_store.specs.Node.{NodeState, new_node};
-ghost use Rattle.node_store.specs.Serve.{node_with, IsOneRequest, Serves, HasRoom, HasStoreCause};
-ghost use Rattle.node_store.specs.Store.{IsAsked, KeepsNode, StandsForEither};
+ghost use Rattle.node_core.specs.Nodes.{StoreV, has_numbers};
+ghost use Rattle.node_core.specs.Serving.{serve};
+ghost use Rattle.node_store.specs.Parts.{IsNodeOf};
+ghost use Rattle.node_store.specs.Reading.{IsRefusal, IsBad};
+ghost use Rattle.node_store.specs.Refused.{IsServeFault};
+ghost use Rattle.node_store.specs.Stands.{FileStandsFor, opened_store};
+ghost use Rattle.node_store.specs.Serve.{IsMessage, IsOneMessage, HasServed, HasStopped, HasStoreCause};
+ghost use Rattle.node_store.specs.Store.{KeepsStore, StandsForEither, LeavesOpened, IsDownAt};
 
-use crate::change::{Refusal, serve_on, store_fault};
-use crate::node::Node;
-use crate::opening::begun;
+use crate::opening::open_on;
+use crate::reading::store_fault;
+use crate::serve::{Refusal, serve_on};
 use gate_log::GateLog;
-use mds_base::{Ask, Setup, StoreFault};
+use mds_base::{MapRows, Setup, StoreFault};
 use mds_out::Disk;
-use records::{Handled, Msg};
+use node_core::Node;
+use records::{Handled, Msg, RecordList};
 use std::alloc::Global;
 use std::marker::Model;
 
 /// A server on a disk.
 #[derive(Drop)]
 pub struct NodeStore<D: Disk> {
-    disk: D,
-    server: u32,
-    setup: Setup,
-    log: GateLog,
-    node: Node,
-    down: bool,
+    pub(crate) disk: D,
+    pub(crate) server: u32,
+    pub(crate) setup: Setup,
+    pub(crate) log: GateLog,
+    pub(crate) node: Node,
+    pub(crate) rows: MapRows,
+    pub(crate) down: bool,
+    pub(crate) doubt: RecordList,
 }
 
 impl<D: Disk> Model for NodeStore<D> {
-    ghost use Rattle.std.specs.Prelude.{◌≡◌, ◌<◌, false, None, Some, if◌then◌else◌};
+    ghost use Rattle.std.specs.Prelude.{◌≡◌, ◌<◌, ◌^◌, false, None, Some, length, if◌then◌else◌};
+    ghost use Rattle.std.specs.FinMap as map;
     ghost use Rattle.std.specs.Coded.{codes};
-    ghost use Rattle.node_store.specs.Node.{coded_rows};
-    ghost use Rattle.node_store.specs.Store.{Store, IsKept};
+    ghost use Rattle.mds_base.specs.Entries.{coded_attr};
+    ghost use Rattle.mds_base.specs.RowKeys.{coded_row_key};
+    ghost use Rattle.node_store.specs.Parts.{IsServer, IsUp};
+    ghost use Rattle.node_store.specs.Store.{Store};
 
     ghost Value = { Store D };
 
-    ghost coded = { Prim.hlevel (codes, coded_rows) };
+    ghost coded = { Prim.hlevel (codes, map.code, coded_row_key, coded_attr) };
 
-    ghost view = { λ s. record { disk = s.disk; server = s.server; setup = s.setup; log = s.log; up = (if s.down then None else Some s.node) } };
+    ghost view = { λ s. record { disk = s.disk; server = s.server; setup = s.setup; log = s.log; up = (if s.down then None else Some (record { node = s.node; rows = s.rows })); doubt = s.doubt } };
 
-    ghost invariant = { λ s. (s.server < 32) × (s.down ≡ false → IsKept (D.seen s.disk) (D.sizes s.disk) (D.images s.disk) s.server s.setup s.log s.node) };
+    ghost invariant = { λ s. IsServer s.server s.setup × (length s.doubt < 2 ^ 32)
+        × (s.down ≡ false → IsUp (D.seen s.disk) (D.sizes s.disk) (D.images s.disk) s.server s.setup s.log (record { node = s.node; rows = s.rows }) s.doubt) };
 }
 
 /// The disk of a server that could not be brought up, and why.
@@ -53,38 +66,47 @@ pub struct Refused<D: Disk> {
 }
 
 impl<D: Disk> NodeStore<D> {
-    // The server of a new disk: its log is made and opened. What file 1 held is gone.
-    pub(crate) fn made(
+    /// Opens the disk of a server for a new run, in which no client has sent anything yet. Where file 1 is new the
+    /// server's log is made; else it is read, and `Damaged` tells the first place at which it is wrong.
+    pub fn bring_up(
         alloc: Global,
         disk: D,
         server: u32,
         setup: Setup,
     ) -> Result<NodeStore<D>, Refused<D>>
-        requires { IsHead 1 setup.servers server setup.threshold }
-        ensures node { IfOk result (λ store. store.up ≡ Some (new_node server)) }
-        ensures named { IfOk result (λ store. (store.server ≡ server) × (store.setup ≡ setup)) }
-        ensures keeps { IfOk result (λ store. OnTold (D.seen store.disk 1) (λ _. KeepsNode (D.images store.disk) server setup (new_node server))) }
-        ensures same { IfOk result (λ store. D.faults store.disk ≡ D.faults disk) }
-        ensures device { IfErr result (λ refused. refused.fault ≡ StoreFault.Device → Rose (D.faults disk) (D.faults refused.disk)) }
+        requires head { IsHead 1 setup.servers server setup.threshold }
+        requires lease { setup.lease ≤ 1000000 }
+        ensures named { IfOk result (λ s. (s.server ≡ server) × (s.setup ≡ setup)) }
+
+        // The server is up with the store that the disk's bytes stand for, opened, and the disk keeps it.
+        ensures opened { IfOk result (λ s. OnTold (D.seen disk 1) (λ bytes. (store : StoreV) × FileStandsFor server setup bytes store × (s.up ≡ Some (opened_store store)))) }
+        ensures some { IfOk result (λ s. (store : StoreV) × (s.up ≡ Some store)) }
+        ensures sure { IfOk result (λ s. s.doubt ≡ []) }
+        ensures keeps { IfOk result (λ s. (store : StoreV) → s.up ≡ Some store → OnTold (D.seen s.disk 1) (λ _. KeepsStore (D.images s.disk) server setup store)) }
+
+        // A crash at any moment leaves a disk that stands for one of the stores from before, or for one of them opened.
+        ensures any_moment { MatchResult result (λ s. LeavesOpened D.moment D.images_since (D.seen disk) (D.images disk) server setup disk s.disk) (λ r. LeavesOpened D.moment D.images_since (D.seen disk) (D.images disk) server setup disk r.disk) }
+
+        // `Damaged` tells what is wrong with file 1; `Stopped` and `Room` never come.
+        ensures refused { IfErr result (λ r. IsRefusal (IsBad server setup) (D.seen disk 1) r.fault) }
+        ensures told { MatchResult result (λ s. StaysTold (D.seen disk 1) (D.seen s.disk 1)) (λ r. StaysTold (D.seen disk 1) (D.seen r.disk 1)) }
+        ensures same { IfOk result (λ s. D.faults s.disk ≡ D.faults disk) }
+        ensures device { IfErr result (λ r. r.fault ≡ StoreFault.Device → Rose (D.faults disk) (D.faults r.disk)) }
+        ensures later { IfErr result (λ r. D.faults disk ≤ D.faults r.disk) }
     {
         let mut disk = disk;
-        match begun(alloc, &mut disk, server, setup) {
-            Ok(log) => Ok(NodeStore {
+        match open_on(alloc, &mut disk, server, setup) {
+            Ok((log, node, rows)) => Ok(NodeStore {
                 disk,
                 server,
                 setup,
                 log,
-                node: Node::new(alloc, server),
+                node,
+                rows,
                 down: false,
+                doubt: RecordList::new(alloc),
             }),
-            Err(Refusal::Memory) => Err(Refused {
-                disk,
-                fault: StoreFault::OutOfMemory,
-            }),
-            Err(Refusal::Disk(fault)) => Err(Refused {
-                disk,
-                fault: store_fault(fault),
-            }),
+            Err(fault) => Err(Refused { disk, fault }),
         }
     }
 
@@ -95,40 +117,80 @@ impl<D: Disk> NodeStore<D> {
         self.down
     }
 
-    /// The disk.
+    /// The records in doubt: those of the Serve that stopped the server. There are none where it is up.
+    pub fn doubt(&self) -> &RecordList
+        ensures { result.now ≡ self.now.doubt }
+    {
+        &self.doubt
+    }
+
+    /// The next directory number of a server that is up.
+    pub fn next_id(&self) -> u64
+        requires { (store : StoreV) × (self.now.up ≡ Some store) }
+        ensures next { (store : StoreV) → self.now.up ≡ Some store → result ≡ store.node.next }
+        ensures own { (store : StoreV) → self.now.up ≡ Some store → IsNodeOf self.now.server self.now.setup store.node }
+    {
+        self.node.next_id()
+    }
+
+    /// The disk. That of a server that is up keeps its store.
     pub fn into_disk(self) -> D
-        ensures { result ≡ self.disk }
+        ensures disk { result ≡ self.disk }
+        ensures kept { (store : StoreV) → self.up ≡ Some store → OnTold (D.seen result 1) (λ _. KeepsStore (D.images result) self.server self.setup store) }
     {
         let NodeStore { disk, .. } = self;
         disk
     }
 
-    fn serve(&mut self, alloc: Global, ask: &Ask) -> Result<Handled, StoreFault>
-        requires up { (node : NodeState) × (self.old.up ≡ Some node) × HasRoom self.old.server node }
-        requires asked { IsAsked ask.now }
-        ensures served { IfOk result (λ handled. (node : NodeState) → self.old.up ≡ Some node → Serves node ask.now handled self.new.up) }
-        ensures keeps { OnOk result ((node : NodeState) → self.new.up ≡ Some node → OnTold (D.seen self.new.disk 1) (λ _. KeepsNode (D.images self.new.disk) self.new.server self.new.setup node)) }
-        ensures any_moment { (node : NodeState) → self.old.up ≡ Some node
-            → OnTold (D.seen self.old.disk 1) (λ _. LeavesOnly D.moment D.images_since self.old.disk self.new.disk (StandsForEither self.old.server self.old.setup node (node_with ask.now.call node))) }
-        ensures refused { OnErr result ((self.new.up ≡ None) ⊎ (self.new ≡ self.old)) }
+    /// Stops a server that is up, with no record in doubt. Nothing is done to its disk.
+    pub fn halt(&mut self)
+        requires { (store : StoreV) × (self.old.up ≡ Some store) }
+        ensures stopped { self.new ≡ record self.old { up = None } }
+        ensures sure { self.new.doubt ≡ [] }
+        ensures at { (store : StoreV) → self.old.up ≡ Some store → IsDownAt D.seen D.images self.new store }
+    {
+        self.down = true;
+    }
+
+    fn serve(&mut self, alloc: Global, msg: &Msg, now: u64) -> Result<Handled, StoreFault>
+        requires up { (store : StoreV) × (self.old.up ≡ Some store) × (has_numbers store.node ≡ true) }
+        requires made { IsMessage msg.now }
+        requires moment { now < 2 ^ 43 }
+        ensures served { IfOk result (λ handled. (store : StoreV) → self.old.up ≡ Some store → HasServed (serve store msg.now now) self.new.up handled) }
+        ensures sure { OnOk result (self.new.doubt ≡ []) }
+        ensures keeps { OnOk result ((store : StoreV) → self.new.up ≡ Some store → OnTold (D.seen self.new.disk 1) (λ _. KeepsStore (D.images self.new.disk) self.new.server self.new.setup store)) }
+        ensures any_moment { (store : StoreV) → self.old.up ≡ Some store
+            → OnTold (D.seen self.old.disk 1) (λ _. LeavesOnly D.moment D.images_since self.old.disk self.new.disk (StandsForEither self.old.server self.old.setup store (serve store msg.now now).store)) }
+        ensures refused { OnErr result ((store : StoreV) → self.old.up ≡ Some store → (self.new ≡ self.old) ⊎ HasStopped D.seen D.images self.new store (serve store msg.now now).records) }
         ensures down { IsErrOf result StoreFault.Device → self.new.up ≡ None }
+        ensures fault { IfErr result IsServeFault }
         ensures same { (self.new.server ≡ self.old.server) × (self.new.setup ≡ self.old.setup) }
+        ensures told { StaysTold (D.seen self.old.disk 1) (D.seen self.new.disk 1) }
         ensures cause { HasStoreCause (D.faults self.old.disk) (D.faults self.new.disk) result }
     {
-        match serve_on(alloc, ask, &mut self.disk, &mut self.log, &mut self.node) {
+        match serve_on(
+            alloc,
+            msg,
+            now,
+            &mut self.disk,
+            &mut self.log,
+            &mut self.node,
+            &mut self.rows,
+        ) {
             Ok(handled) => Ok(handled),
             Err(Refusal::Memory) => Err(StoreFault::OutOfMemory),
-            Err(Refusal::Disk(fault)) => {
+            Err(Refusal::Disk(fault, doubt)) => {
                 self.down = true;
+                self.doubt = doubt;
                 Err(store_fault(fault))
             }
         }
     }
 
-    /// Serves one message; a change is one record and one append. It takes its memory first.
+    /// Serves one message; its changes are one body of records and one append. It takes its memory first.
     ///
-    /// After `Device`, or a disk's want of memory, the server is down and its record is in doubt; after its own want of
-    /// memory nothing has changed.
+    /// After `Device`, or a disk's want of memory, the server is down and the records are in doubt; after its own want
+    /// of memory nothing has changed. The room is not counted yet.
     pub fn serve_batch(
         &mut self,
         alloc: Global,
@@ -136,26 +198,30 @@ impl<D: Disk> NodeStore<D> {
         now: u64,
         room: u64,
     ) -> Result<Handled, StoreFault>
-        requires up { (node : NodeState) × (self.old.up ≡ Some node) × HasRoom self.old.server node }
-        requires one { (ask : Ask) × IsOneRequest msgs.now ask }
-        ensures served { IfOk result (λ handled. (ask : Ask) → (node : NodeState) → IsOneRequest msgs.now ask → self.old.up ≡ Some node → Serves node ask handled self.new.up) }
+        requires up { (store : StoreV) × (self.old.up ≡ Some store) × (has_numbers store.node ≡ true) }
+        requires one { (msg : Msg) × IsOneMessage msgs.now msg }
+        requires moment { now < 2 ^ 43 }
+        ensures served { IfOk result (λ handled. (msg : Msg) → (store : StoreV) → IsOneMessage msgs.now msg → self.old.up ≡ Some store → HasServed (serve store msg now) self.new.up handled) }
+        ensures sure { OnOk result (self.new.doubt ≡ []) }
 
-        // After Ok the disk keeps the new node.
-        ensures keeps { OnOk result ((node : NodeState) → self.new.up ≡ Some node → OnTold (D.seen self.new.disk 1) (λ _. KeepsNode (D.images self.new.disk) self.new.server self.new.setup node)) }
+        // After Ok the disk keeps the new store.
+        ensures keeps { OnOk result ((store : StoreV) → self.new.up ≡ Some store → OnTold (D.seen self.new.disk 1) (λ _. KeepsStore (D.images self.new.disk) self.new.server self.new.setup store)) }
 
-        // A crash at any moment of the call leaves the old node, or the one with the record.
-        ensures any_moment { (ask : Ask) → (node : NodeState) → IsOneRequest msgs.now ask → self.old.up ≡ Some node
-            → OnTold (D.seen self.old.disk 1) (λ _. LeavesOnly D.moment D.images_since self.old.disk self.new.disk (StandsForEither self.old.server self.old.setup node (node_with ask.call node))) }
+        // A crash at any moment of the call leaves the old store, or the one with the records.
+        ensures any_moment { (msg : Msg) → (store : StoreV) → IsOneMessage msgs.now msg → self.old.up ≡ Some store
+            → OnTold (D.seen self.old.disk 1) (λ _. LeavesOnly D.moment D.images_since self.old.disk self.new.disk (StandsForEither self.old.server self.old.setup store (serve store msg now).store)) }
 
-        // A refusal leaves the server down, or as it was.
-        ensures refused { OnErr result ((self.new.up ≡ None) ⊎ (self.new ≡ self.old)) }
+        // A refusal leaves all as it was, or the server down with the records in doubt.
+        ensures refused { OnErr result ((msg : Msg) → (store : StoreV) → IsOneMessage msgs.now msg → self.old.up ≡ Some store → (self.new ≡ self.old) ⊎ HasStopped D.seen D.images self.new store (serve store msg now).records) }
         ensures down { IsErrOf result StoreFault.Device → self.new.up ≡ None }
+        ensures fault { IfErr result IsServeFault }
         ensures same { (self.new.server ≡ self.old.server) × (self.new.setup ≡ self.old.setup) }
+        ensures told { StaysTold (D.seen self.old.disk 1) (D.seen self.new.disk 1) }
         ensures cause { HasStoreCause (D.faults self.old.disk) (D.faults self.new.disk) result }
     {
-        let _ = (now, room);
+        let _room = room;
         match msgs {
-            [Msg::Request { ask, .. }] => self.serve(alloc, ask),
+            [msg] => self.serve(alloc, msg, now),
             _ => unreachable!(),
         }
     }

@@ -38,8 +38,8 @@ returns-clause-ok g c =
     let f = follows_so store c.args.client c.args.seq c.args.part call c.args.said dir name c.requires.asked may (sym same ∙ own_said) in
     record {
       follows' = sym f.0;
-      node' = c.in_ok-note.ensures.ok ∙ noted_so c.args.self.now rows dir name c.args.client c.args.seq call c.weigh-weighed.result.said c.weigh-weighed.result.edit c.in_ok-before.before before_is c.requires.asked said_is c.weigh-weighed.ensures.edit ∙ ap (λ (v : StoreV). v.node) (sym f.1);
-      rows' = rows_so rows (g.R.Rows.contents c.write.new.rows) dir name call c.weigh-weighed.result.said c.weigh-weighed.result.edit c.in_ok-before.before before_is c.weigh-weighed.ensures.edit
-          (c.in_ok-write.ensures.ok ∙ ap (λ m. edited_rows m c.in_ok-key.key (edit_of c.weigh-weighed.result.edit)) c.get.ensures.contents ∙ ap (λ k. edited_rows rows k (edit_of c.weigh-weighed.result.edit)) key_is)
+      node' = c.in_ok-change.ensures.node ∙ noted_so c.args.self.now rows dir name c.args.client c.args.seq call c.weigh-weighed.result.said c.weigh-weighed.result.edit c.in_ok-before.before before_is c.requires.asked said_is c.weigh-weighed.ensures.edit ∙ ap (λ (v : StoreV). v.node) (sym f.1);
+      rows' = rows_so rows (g.R.Rows.contents c.change.new.rows) dir name call c.weigh-weighed.result.said c.weigh-weighed.result.edit c.in_ok-before.before before_is c.weigh-weighed.ensures.edit
+          (c.in_ok-change.ensures.rows ∙ ap (λ m. edited_rows m c.in_ok-key.key (edit_of c.weigh-weighed.result.edit)) c.get.ensures.contents ∙ ap (λ k. edited_rows rows k (edit_of c.weigh-weighed.result.edit)) key_is)
           ∙ ap (λ x. rows_after rows dir 0 name call x) own_said ∙ ap (λ (v : StoreV). v.rows) (sym f.1);
     }

@@ -1,0 +1,38 @@
+use Rattle.std.proofs.Common.{◌≡◌, ◌∙◌, ◌<◌, ℕ, Some, subst}
+use Rattle.mds_base.specs.declared.setup.Setup.{Setup}
+use Rattle.mds_out.specs.Known.{OnTold}
+use Rattle.mds_out.proofs.Moments.{both}
+use Rattle.gate_log.specs.Calls.{IsSomeGate}
+use Rattle.gate_log.specs.LogState.{LogState, IsReady}
+use Rattle.gate_log.proofs.Scans.{unchanged_twice, same_twice}
+use Rattle.node_core.specs.Nodes.{StoreV}
+use Rattle.node_store.specs.Reading.{HasReplayed, ReplaysOn}
+use Rattle.node_store.proofs.reading.read_log.Goals as goal
+
+pub bodies-preserved : goal.bodies-preserved
+bodies-preserved g c =
+    let before = c.bodies.invariant in
+    let seen = g.D.Disk.seen c.bodies.disk in
+    let seen' = g.D.Disk.seen c.replay_at.new.disk in
+    let next = c.in-Some.next in
+    let old : StoreV = record { node = c.bodies.node; rows = c.bodies.rows } in
+    let new : StoreV = record { node = c.replay_at.new.node; rows = c.replay_at.new.rows } in
+    let P : LogState → Type 0 = λ log. (server : ℕ) → (setup : Setup) → OnTold (seen log.file) (HasReplayed server setup log c.bodies.gate old) → OnTold (seen' log.file) (ReplaysOn server setup log (Some next) new) in
+    let Q : LogState → Type 0 = λ log. OnTold (seen' log.file) (IsSomeGate log next) in
+    let W : LogState → Type 0 = λ log. next < log.length in
+    let R : LogState → Type 0 = λ log. IsReady log seen' (g.D.Disk.sizes c.replay_at.new.disk) (g.D.Disk.images c.replay_at.new.disk) in
+    record {
+      replayed = subst P before.log (rw c.in-Some.is at c.in_ok-next.ensures.replayed) c.args.server c.args.setup before.replayed;
+      node = c.in_ok-next.ensures.node c.args.server c.args.setup before.node;
+      gate = subst Q before.log (rw c.in-Some.is at c.in_ok-next.ensures.gate);
+      within = subst W before.log (rw c.in-Some.is at c.in_ok-next.ensures.onward).1;
+      log = c.in_ok-next.ensures.same ∙ before.log;
+      ready = subst R before.log c.in_ok-next.ensures.ready;
+      unchanged = unchanged_twice _ _ _ _ _ _ before.unchanged c.replay_at.ensures.unchanged;
+      same = same_twice _ _ _ before.same c.replay_at.ensures.crash;
+      moment = both g.D.Disk.moment g.D.Disk.images_since c.args.disk.now c.bodies.disk c.replay_at.new.disk (g.D.Disk.images c.args.disk.now) (g.D.Disk.images c.bodies.disk) (g.D.Disk.images c.args.disk.now) before.moment c.replay_at.ensures.any_moment (λ image is. is) before.same.no_other;
+      quiet = c.in_ok-next.ensures.cause.kept ∙ before.quiet;
+    }
+
+pub returns-in-None-clause-node : goal.returns-in-None-clause-node
+returns-in-None-clause-node g c = c.in_ok-next.ensures.node c.args.server c.args.setup c.bodies.invariant.node
