@@ -28,13 +28,13 @@ use Rattle.world.proofs.Invariant.{Inv}
 use Rattle.world.proofs.Starts.{get_below, get_mapped, start_inv}
 use Rattle.world.proofs.Theorem.{reached_start}
 use Rattle.simulation.specs.Fuses.{seen_by, images_by}
-use Rattle.simulation.specs.Openings.{with_choice, OpensFrom, Paired, IsUpOn, IsFresh, StandsForOne}
+use Rattle.simulation.specs.Openings.{with_choice, OpensFrom, Paired, IsUpOn, IsFresh}
 use Rattle.simulation.specs.Runs.{start_run, is_named}
 use Rattle.simulation.specs.Shows.{SimulationV, Shows, AreServers, IsServer, IsServerAt, waiting_cmp}
 use Rattle.simulation.specs.Starts.{EndsAt, AreDisks, AreReached}
 use Rattle.simulation.proofs.Cleared.{opened_new}
 use Rattle.simulation.proofs.Closings.{closed_state, ClosesAs, closes_as}
-use Rattle.simulation.proofs.Found.{ReadsAs, found, closed_store, closed_up, closed_sure}
+use Rattle.simulation.proofs.Found.{StandsForOne, ReadsAs, found, closed_store, closed_up, closed_sure}
 use Rattle.simulation.proofs.Pairs.{paired_length, paired_at, choose}
 
 seats_are : (setup : Setup) (ks : List ℕ) → list_map (λ (seat : ClientState). seat.client) (list_map (new_seat setup) ks) ≡ list_map (λ k. new_client k setup) ks

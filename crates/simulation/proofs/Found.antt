@@ -13,9 +13,12 @@ use Rattle.node_store.specs.Stands.{FileStandsFor, opened_store}
 use Rattle.node_store.specs.Store.{KeepsAny, StandsForAny}
 use Rattle.world.specs.declared.state.ServerState.{ServerState}
 use Rattle.world.specs.Worlds.{store_of}
-use Rattle.simulation.specs.Openings.{StandsForOne}
 use Rattle.simulation.proofs.Cleared.{opened_twice}
 use Rattle.simulation.proofs.Closings.{closed_as, closed_state}
+
+-- a file stands for one store at most
+abbrev pub StandsForOne : Type 0
+StandsForOne = (server : ℕ) (setup : Setup) (file : List ℕ) (a b : StoreV) → FileStandsFor server setup file a → FileStandsFor server setup file b → a ≡ b
 
 -- a disk as it reads is one of its images
 abbrev pub ReadsAs : {D : Type 0} → (D → Contents) → (D → Image → Type 0) → Type 0
@@ -40,7 +43,7 @@ own_bytes : (seen : Contents) (bytes : List ℕ) → seen 1 ≡ Some bytes → o
 unfolding own_image
 own_bytes seen bytes e = ap (λ o. unwrap_or o []) e
 
-stands_any : {D : Type 0} (seen : D → Contents) (images : D → Image → Type 0) → ReadsAs seen images → (disk : D) (s : ℕ) (setup : Setup) (stores : List StoreV) (bytes : List ℕ) → seen disk 1 ≡ Some bytes
+pub stands_any : {D : Type 0} (seen : D → Contents) (images : D → Image → Type 0) → ReadsAs seen images → (disk : D) (s : ℕ) (setup : Setup) (stores : List StoreV) (bytes : List ℕ) → seen disk 1 ≡ Some bytes
     → KeepsAny (images disk) s setup stores → StandsForAny s setup stores bytes
 stands_any seen images reads disk s setup stores bytes e keeps =
     subst (StandsForAny s setup stores) (own_bytes (seen disk) bytes e) (keeps (own_image (seen disk)) (reads disk (own_image (seen disk)) (shows_own (seen disk))))

@@ -8,3 +8,4 @@ pub mod Opened
 pub mod Giving
 pub mod Raising
 pub mod Freshly
+pub mod Leaving

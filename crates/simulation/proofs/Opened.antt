@@ -10,29 +10,24 @@ use Rattle.mds_out.specs.Fault.{Rose}
 use Rattle.mds_out.specs.Known.{OnTold}
 use Rattle.node_core.specs.Nodes.{StoreV}
 use Rattle.node_store.specs.Stands.{opened_store}
-use Rattle.node_store.specs.Stub.{IsRefusal, IsBad}
-use Rattle.node_store.specs.Store.{KeepsAny, StandsForAny}
+use Rattle.node_store.specs.Reading.{IsRefusal, IsBad}
+use Rattle.node_store.specs.Store.{KeepsAny, StandsForAny, LeavesOpened}
 use Rattle.simulation.specs.Openings.{IsHandedBack, IsOpenFault}
 
--- the disk tells a file exactly where it told it before
-abbrev pub StaysTold : Option (List ℕ) → Option (List ℕ) → Type 0
-StaysTold before now = Tells before now (λ old new. Unit {0})
-
-tells_still : (old new : Option (List ℕ)) → StaysTold old new → is_some old ≡ true → is_some new ≡ true
+tells_still : (old new : Option (List ℕ)) → Tells old new (λ before now. Unit {0}) → is_some old ≡ true → is_some new ≡ true
 tells_still None new stays some = absurd (let n : false ≡ true = some in cc)
 tells_still (Some bytes) None stays some = absurd stays
 tells_still (Some bytes) (Some now) stays some = refl
 
-where_told : (told : Option (List ℕ)) (P : Type 0) → OnTold told (λ bytes. P) → is_some told ≡ true → P
+pub where_told : (told : Option (List ℕ)) (P : Type 0) → OnTold told (λ bytes. P) → is_some told ≡ true → P
 where_told None P h some = absurd (let n : false ≡ true = some in cc)
 where_told (Some bytes) P h some = h
 
 -- the disk still tells its file, and whatever it stood for it stands for, or for that opened
 pub handed : {D : Type 0} (seen : D → Contents) (images : D → Image → Type 0) (moment : D → ℕ) (since : D → ℕ → Image → Type 0)
     → ((disk : D) (t : ℕ) (image : Image) → t ≤ moment disk → images disk image → since disk t image)
-    → (setup : Setup) (s : ℕ) (old new : D) → StaysTold (seen old 1) (seen new 1)
-    → OnTold (seen old 1) (λ bytes. (stores : List StoreV) → KeepsAny (images old) s setup stores → LeavesOnly moment since old new (λ image. StandsForAny s setup (stores ++ list_map opened_store stores) (image 1)))
-    → IsHandedBack seen images setup s old new
+    → (setup : Setup) (s : ℕ) (old new : D) → Tells (seen old 1) (seen new 1) (λ before now. Unit {0})
+    → LeavesOpened moment since (seen old) (images old) s setup old new → IsHandedBack seen images setup s old new
 handed seen images moment since counts setup s old new stays leaves = record {
   told = tells_still (seen old 1) (seen new 1) stays;
   left = λ some stores keeps image among.

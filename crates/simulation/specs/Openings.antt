@@ -17,9 +17,13 @@ use Rattle.node_store.specs.Damage.{IsDamaged}
 use Rattle.node_store.specs.Store.{Store, KeepsStore, KeepsAny}
 use Rattle.client_core.specs.Clients.{new_client}
 use Rattle.world.specs.declared.state.ServerState.{ServerState}
-use Rattle.world.specs.Law.{PastRun, IsReached}
+use Rattle.world.specs.Events.{all_enabled}
+use Rattle.world.specs.Histories.{run}
+use Rattle.world.specs.Law.{PastRun, IsReached, start_trace}
+use Rattle.world.specs.Worlds.{fresh_world}
 use Rattle.simulation.specs.Runs.{start_run}
 use Rattle.simulation.specs.Shows.{SimulationV, Shows}
+use Rattle.simulation.specs.Starts.{AreDisks, AreReached}
 
 -- the past with this choice of the records in doubt that were kept at the end of its last run
 abbrev pub with_choice : (ℕ → Bool) → List PastRun → List PastRun
@@ -86,6 +90,14 @@ pub record IsFresh {X : Type 0} (setup : Setup) (sim : SimulationV X) : Type 0 w
   pub made : sim.made ≡ []
   pub taken : sim.taken ≡ set.empty
 
--- a file stands for one store at most
-abbrev pub StandsForOne : Type 0
-StandsForOne = (server : ℕ) (setup : Setup) (file : List ℕ) (a b : StoreV) → FileStandsFor server setup file a → FileStandsFor server setup file b → a ≡ b
+-- a fault that tells of no damage
+abbrev pub IsNoDamage : StoreFault → Type 0
+IsNoDamage (Damaged file place damage) = ⊥
+IsNoDamage fault = Unit {0}
+
+-- disks of servers as a run from a reached start left them are those of its past, with the run as its last one
+abbrev pub RunsAreReached : {D : Type 0} → (D → Contents) → (D → Image → Type 0) → Type 0
+RunsAreReached {D = D} seen images =
+    (setup : Setup) (older : List PastRun) (from : List ServerState) (there : Entries) (last : PastRun) (disks : List D) → IsReached setup older from there
+    → all_enabled (fresh_world setup from) last.events ≡ true → AreDisks seen images setup disks (run (start_trace setup from there) last.events).world.servers
+    → AreReached seen images setup disks (last ∷ older)

@@ -5,17 +5,19 @@ ghost use Rattle.std.specs.Vec.{vec_capacity};
 ghost use Rattle.std.specs.Vec.Iter.{into_iter_items};
 ghost use Rattle.client_core.specs.Clients.{new_client};
 ghost use Rattle.node_store.specs.Parts.{IsServer};
+ghost use Rattle.world.specs.declared.state.ServerState.{ServerState};
 ghost use Rattle.world.specs.Law.{PastRun};
 ghost use Rattle.simulation.specs.Fuses.{seen_by, images_by};
-ghost use Rattle.simulation.specs.Openings.{OpensFrom, Paired, IsHandedBack, IsUpOn, IsDiskOf, IsOpenFault, IsNotOpened, IsFresh, StandsForOne};
+ghost use Rattle.simulation.specs.Openings.{OpensFrom, Paired, IsHandedBack, IsUpOn, IsDiskOf, IsOpenFault, IsNotOpened, IsFresh, IsNoDamage};
 ghost use Rattle.simulation.specs.Ranges.{IsSetup};
-ghost use Rattle.simulation.specs.Starts.{AreReached};
+ghost use Rattle.simulation.specs.Shows.{AreServers};
+ghost use Rattle.simulation.specs.Starts.{AreDisks, AreReached};
 
 use crate::simulation::Simulation;
 use client_core::Client;
 use mds_base::{Setup, StoreFault};
 use mds_out::{Disk, Fuse};
-use node_store::{NodeStore, Refused};
+use node_store::{NodeStore, Refused, laws_of_disks};
 use records::MsgList;
 use std::alloc::{AllocError, Global};
 use std::collections::BTreeSet;
@@ -49,8 +51,9 @@ impl<D: Disk + Drop> Simulation<D> {
         ensures fresh { IfOk result (IsFresh setup) }
         ensures still { IfErr result (λ refused. (past : List PastRun) → AreReached D.seen D.images setup disks.items past → AreReached D.seen D.images setup refused.disks.items past) }
         ensures refused { IfErr result (λ refused. IsNotOpened D.faults D.seen setup disks.items refused.disks.items refused.server refused.fault) }
+        ensures sound { IfErr result (λ refused. (past : List PastRun) → AreReached D.seen D.images setup disks.items past → IsNoDamage refused.fault) }
     {
-        one_store();
+        laws_of_disks();
         let Ok(clients) = new_clients(alloc, setup) else {
             return Err(without_memory(disks));
         };
@@ -76,11 +79,20 @@ impl<D: Disk + Drop> Simulation<D> {
             Err(refused) => Err(refused),
         }
     }
-}
 
-fn one_store()
-    ensures { StandsForOne }
-{
+    /// The disks, each at its place. It takes no memory.
+    ///
+    /// Where the servers on them are those of a world, the disks are such as a run leaves that ends there.
+    pub fn into_disks(self) -> Vec<D>
+        ensures left { (servers : List ServerState) → AreServers (seen_by D.seen) (images_by D.images) self.setup self.stores servers → AreDisks D.seen D.images self.setup result.items servers }
+        ensures same { result.items ≡ map (λ store. store.disk.inner) self.stores }
+    {
+        let Simulation {
+            stores, mut back, ..
+        } = self;
+        put_back(stores, &mut back);
+        back
+    }
 }
 
 // The disks as they were, for want of memory.
@@ -159,19 +171,19 @@ fn bring_up<D: Disk>(
     }
 }
 
-// The disks of servers, one disk more, and the rest, each at its place.
+// The disks of servers, that of the refused one, and the rest, each at its place.
 fn handed_back<D: Disk + Drop>(
     stores: Vec<NodeStore<Fuse<D>>>,
-    disk: D,
+    refused: D,
     rest: IntoIter<D>,
     mut back: Vec<D>,
 ) -> Vec<D>
     requires none { back.items ≡ [] }
     requires room { length stores.items + 1 + length (into_iter_items rest) ≤ vec_capacity back }
-    ensures { (disks : List D) × (result.items ≡ disks ++ disk ∷ into_iter_items rest) × Paired (λ _. IsDiskOf D.seen D.images) 0 stores.items disks }
+    ensures { (disks : List D) × (result.items ≡ disks ++ refused ∷ into_iter_items rest) × Paired (λ _. IsDiskOf D.seen D.images) 0 stores.items disks }
 {
     put_back(stores, &mut back);
-    back.push_reserved(disk);
+    back.push_reserved(refused);
     for disk in rest {
         back.push_reserved(disk);
     }

@@ -19,7 +19,7 @@ pub returns-in-Err-clause-back : goal.returns-in-Err-clause-back
 returns-in-Err-clause-back g c =
     let d = g.D.Disk in
     let e = c.in-Err.ensures in
-    handed d.seen d.images d.moment d.images_since g.met.D.Disk.counts_now c.args.setup c.args.server c.args.disk c.in-Err.refused.disk e.told_refused e.any_moment_refused
+    handed d.seen d.images d.moment d.images_since g.met.D.Disk.counts_now c.args.setup c.args.server c.args.disk c.in-Err.refused.disk e.told e.any_moment
 
 pub returns-in-Err-clause-cause : goal.returns-in-Err-clause-cause
 returns-in-Err-clause-cause g c =

@@ -8,6 +8,7 @@ use Rattle.simulation.specs.Shows.{SimulationV, waiting_cmp}
 use Rattle.simulation.proofs.Begins.{opens_from}
 use Rattle.simulation.proofs.Refusals.{are_reached_still}
 use Rattle.simulation.proofs.Freshly.{fresh_ranges}
+use Rattle.simulation.proofs.Leaving.{reached_sound}
 use Rattle.simulation.proofs.simulation.Simulation.open.Goals as goal
 
 pub invariant_of-result : goal.invariant_of-result
@@ -35,7 +36,7 @@ returns-in-Ok-bring_up_all-clause-begins g c =
       taken = set.from_list {R = nat_cmp} c.new-in-Ok-bring_up_all-3.result.keys;
     } in
     λ past reached.
-        opens_from d.seen d.images g.met.D.Disk.reads_as c.one_store.ensures c.args.setup sim c.args.disks.items x.ensures.up (record {
+        opens_from d.seen d.images g.met.D.Disk.reads_as c.laws_of_disks.ensures.one c.args.setup sim c.args.disks.items x.ensures.up (record {
           setup' = refl;
           moment = refl;
           count = refl;
@@ -50,3 +51,8 @@ pub returns-in-Err-clause-still : goal.returns-in-Err-clause-still
 returns-in-Err-clause-still g c =
     let d = g.D.Disk in
     are_reached_still d.seen d.images c.args.setup c.args.disks.items c.in-Err.refused.disks.items c.in-Err.ensures.back
+
+pub returns-in-Err-clause-sound : goal.returns-in-Err-clause-sound
+returns-in-Err-clause-sound g c =
+    let d = g.D.Disk in
+    reached_sound d.faults d.seen d.images g.met.D.Disk.reads_as c.laws_of_disks.ensures.sound c.args.setup c.args.disks.items c.in-Err.refused.disks.items c.in-Err.refused.server c.in-Err.refused.fault c.requires.setup c.requires.disks c.in-Err.ensures.refused

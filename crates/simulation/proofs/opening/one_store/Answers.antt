@@ -1,4 +1,0 @@
-use Rattle.simulation.proofs.opening.one_store.Goals as goal
-
-pub returns : goal.returns
-returns c = ?
