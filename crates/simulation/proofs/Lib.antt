@@ -9,3 +9,13 @@ pub mod Giving
 pub mod Raising
 pub mod Freshly
 pub mod Leaving
+pub mod Sets
+pub mod Seats
+pub mod Named
+pub mod Ranged
+pub mod Showing
+pub mod Sending
+pub mod Taking
+pub mod Carried
+pub mod Arming
+pub mod Due

@@ -1,8 +1,9 @@
 -- What the calls of a simulation answer.
-use Rattle.std.specs.Prelude.{◌≡◌, ◌≢◌, ℕ, ◌+◌, ◌<◌, ◌⊎◌, ◌≤◌, true, List, [], ◌∷◌, length, Option, Some, None, Result, Ok}
+use Rattle.std.specs.Prelude.{◌≡◌, ◌≢◌, ℕ, ◌+◌, ◌<◌, ◌⊎◌, ◌≤◌, true, List, [], ◌∷◌, ◌++◌, length, Option, Some, None, Result, IfOk, OnOk, OnErr}
 use Rattle.std.specs.List.{slice_get}
 use Rattle.std.specs.FinSet as set
 use Rattle.std.specs.Ordering.{nat_cmp}
+use Rattle.std.specs.declared.alloc.AllocError.{AllocError}
 use Rattle.client_core.specs.declared.taken.Taken.{Taken}
 use Rattle.client_core.specs.declared.taken.Taken.TheVariants.{Answer}
 use Rattle.client_core.specs.Clients.{ClientV}
@@ -92,6 +93,13 @@ armed store calls = record store { disk = record store.disk { left = Some calls 
 abbrev pub awaiting : set.FinSet waiting_cmp → Option ℕ → ℕ → set.FinSet waiting_cmp
 awaiting waiting None place = waiting
 awaiting waiting (Some server) place = set.insert waiting (server, place)
+
+-- a message was sent, where there was memory: it stands at the end, and waits there for its server
+pub record IsSend (result : Result ℕ AllocError) (sent sent' : List Msg) (waiting waiting' : set.FinSet waiting_cmp) (msg : Msg) : Type 0 where
+  pub place : IfOk result (λ place. place ≡ length sent)
+  pub stands : OnOk result (sent' ≡ sent ++ msg ∷ [])
+  pub waits : OnOk result (waiting' ≡ awaiting waiting (server_for (Some msg)) (length sent))
+  pub err : OnErr result (sent' ≡ sent)
 
 -- the places of the messages that answered a call, once the message at this place was taken
 abbrev pub noting : set.FinSet nat_cmp → Taken → ℕ → set.FinSet nat_cmp

@@ -18,16 +18,21 @@ pub record IsSetup (setup : Setup) : Type 0 where
   pub some_row : 1 ≤ setup.threshold
   pub few_rows : setup.threshold ≤ 8000
 
--- an open call is well made, and its attempts are no more than the events
-abbrev pub IsOpen : ℕ → Option Pending → Type 0
-IsOpen count None = Unit {0}
-IsOpen count (Some pending) = IsWellMade pending.call × (pending.attempt ≤ count)
+-- an open call is numbered and well made, and its attempts are no more than the events
+pub record IsOpenCall (count seq : ℕ) (pending : Pending) : Type 0 where
+  pub numbered : 1 ≤ seq
+  pub made : IsWellMade pending.call
+  pub attempts : pending.attempt ≤ count
+
+abbrev pub IsOpen : ℕ → ℕ → Option Pending → Type 0
+IsOpen count seq None = Unit {0}
+IsOpen count seq (Some pending) = IsOpenCall count seq pending
 
 pub record IsSeat (setup : Setup) (count k : ℕ) (client : ClientV) : Type 0 where
   pub number : client.number ≡ k + 1
   pub setup' : client.setup ≡ setup
   pub seq : client.seq ≤ count
-  pub pending : IsOpen count client.pending
+  pub pending : IsOpen count client.seq client.pending
 
 -- a message is well made, and a request is for a server that is there
 abbrev pub IsSent : ℕ → Msg → Type 0

@@ -6,7 +6,7 @@ ghost use Rattle.std.specs.Ordering.{nat_cmp};
 ghost use Rattle.node_store.specs.Serve.{IsWellMade};
 ghost use Rattle.world.specs.declared.event.Event.TheVariants as Event;
 ghost use Rattle.world.specs.Events.{is_call, is_for_client};
-ghost use Rattle.simulation.specs.Calls.{IsRequestAt, awaiting, noting, taken_of};
+ghost use Rattle.simulation.specs.Calls.{IsRequestAt, IsSend, noting, taken_of};
 ghost use Rattle.simulation.specs.Fuses.{seen_by, images_by};
 ghost use Rattle.simulation.specs.Shows.{Happens, StaysNear, client_at, is_idle, is_busy, server_for, waiting_cmp};
 
@@ -81,10 +81,7 @@ fn send(
     waiting: &mut BTreeSet<(u32, u64)>,
     msg: Msg,
 ) -> Result<u64, AllocError>
-    ensures place { IfOk result (λ place. place ≡ length sent.old) }
-    ensures sent { OnOk result (sent.new ≡ sent.old ++ msg ∷ []) }
-    ensures waiting { OnOk result (set.from_list {R = waiting_cmp} waiting.new.keys ≡ awaiting (set.from_list waiting.old.keys) (server_for (Some msg)) (length sent.old)) }
-    ensures err { OnErr result (sent.new ≡ sent.old) }
+    ensures { IsSend result sent.old sent.new (set.from_list waiting.old.keys) (set.from_list waiting.new.keys) msg }
 {
     let place = sent.messages().len() as u64;
     await_server(waiting, &msg, place)?;
