@@ -1,5 +1,6 @@
 pub mod Calls
 pub mod Fuses
+pub mod Openings
 pub mod Ranges
 pub mod Runs
 pub mod Shows

@@ -3,12 +3,14 @@
 #![tactic(auto)]
 
 mod clients;
+mod law;
 mod made;
 mod opening;
 mod servers;
 mod simulation;
 mod waiting;
 
+pub use law::laws_of_pasts;
 pub use made::{Kind, Made};
 pub use opening::NotOpened;
 pub use servers::{Restarted, Served};
