@@ -50,7 +50,7 @@ pub record IsElsewhereOld (file : ℕ) (old : Image → Type 0) (image : Image) 
   pub was : old before
   pub others : (other : ℕ) → other ≢ file → image other ≡ before other
 
--- A log's calls: the disk's count never falls, rises where `Device` is answered, and stays else.
+-- A log's calls: the disk's count never falls, rises where `Device` is answered, and stays where the call succeeds.
 pub record HasLogCause {T : Type 0} (before now : ℕ) (result : Result T LogFault) : Type 0 where
   pub later : before ≤ now
   pub device : IsErrOf result Device → Rose before now

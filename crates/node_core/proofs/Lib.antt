@@ -6,3 +6,4 @@ pub mod Replayed
 pub mod ReplayLaw
 pub mod Undoes
 pub mod Planned
+pub mod Copies

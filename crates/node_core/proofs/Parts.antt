@@ -6,17 +6,15 @@ use Rattle.std.specs.BTreeMap.{is_at}
 use Rattle.std.specs.FinMap as map
 use Rattle.mds_base.specs.declared.attr.Attr.{Attr}
 use Rattle.mds_base.specs.declared.reply.Final.{Final}
-use Rattle.mds_base.proofs.Maps.{get_entries, one_put, insert_apart}
+use Rattle.mds_base.proofs.Maps.{get_entries, one_put}
 use Rattle.sessions.specs.declared.kept.Kept.{Kept}
 use Rattle.sessions.specs.declared.kept.Judged.TheVariants.{New}
 use Rattle.sessions.specs.Kept.{judge_kept}
 use Rattle.node_core.specs.declared.part.Part.{Part}
 use Rattle.node_core.specs.declared.part.Edit.{Edit}
-use Rattle.std.proofs.Common.{inl, inr}
 use Rattle.node_core.specs.Nodes.{NodeV, PartKey, part_cmp, new_part, session_in}
 use Rattle.node_core.specs.Edits.{part_noted, parts_noted}
-use Rattle.node_core.proofs.Keys.{same_or_apart}
-use Rattle.node_core.proofs.Views.{parts_total, exact_parts, insert_here}
+use Rattle.node_core.proofs.Views.{parts_total, exact_parts, insert_own}
 
 abbrev pub PartEntries : Type 0
 PartEntries = List (PartKey × Part)
@@ -43,12 +41,6 @@ part_put es fs key o v found puts = (one_put parts_total exact_parts es fs key v
 abbrev pub KeptOf : map.FinMap part_cmp Part → PartKey → ℕ → Option Kept
 KeptOf parts key client = map.get (unwrap_or (map.get parts key) new_part).sessions client
 
-insert_same : (m : map.FinMap part_cmp Part) (key : PartKey) (v : Part) → map.get m key ≡ Some v → map.insert m key v ≡ m
-insert_same m key v is = map.same_map parts_total exact_parts _ _ (λ q. elim (same_or_apart parts_total exact_parts q key) [
-  | inl e ↦ ap (map.get (map.insert m key v)) e ∙ insert_here parts_total m key v ∙ sym is ∙ ap (map.get m) (sym e)
-  | inr e ↦ insert_apart parts_total exact_parts m key v q e
-])
-
 -- a partition that is there is written through what was lent
 module _ (es : PartEntries) (key : PartKey) (part : Part) (found : Some part ≡ lookup (is_at (part_cmp key)) es) where
   pub is_there : map.get (map.from_entries {R = part_cmp} es) key ≡ Some part
@@ -60,7 +52,7 @@ module _ (es : PartEntries) (key : PartKey) (part : Part) (found : Some part ≡
 
   pub part_unchanged : (fs : PartEntries) (new : Part) → new ≡ part → (IsSome (lookup (is_at (part_cmp key)) es) → (q : PartKey) → lookup (is_at (part_cmp q)) fs ≡ cond (is_at (part_cmp key) q) (Some new) (lookup (is_at (part_cmp q)) es))
       → map.from_entries {R = part_cmp} fs ≡ map.from_entries {R = part_cmp} es
-  part_unchanged fs new same puts = part_written fs new puts ∙ ap (map.insert (map.from_entries es) key) same ∙ insert_same (map.from_entries es) key part is_there
+  part_unchanged fs new same puts = part_written fs new puts ∙ ap (map.insert (map.from_entries es) key) same ∙ insert_own parts_total exact_parts (map.from_entries es) key part is_there
 
   pub part_noted_there : (fs : PartEntries) (client seq : ℕ) (said : Final) (edit : Edit) (before : Option Attr) (new : Part) → new ≡ part_noted part client seq said edit before
       → (IsSome (lookup (is_at (part_cmp key)) es) → (q : PartKey) → lookup (is_at (part_cmp q)) fs ≡ cond (is_at (part_cmp key) q) (Some new) (lookup (is_at (part_cmp q)) es))

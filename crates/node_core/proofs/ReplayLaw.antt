@@ -1,5 +1,6 @@
 -- Replaying the records of a message that was served gives what serving made.
 use Rattle.std.proofs.Common.{◌≡◌, ◌∙◌, sym, ap, refl, ℕ, ◌==◌, Bool, true, false, cond}
+use Rattle.std.proofs.lemmas.Bool.{and_from, eq-eqb}
 use Rattle.mds_base.specs.declared.ask.Ask.{Ask}
 use Rattle.mds_base.specs.declared.reply.Final.{Final}
 use Rattle.mds_base.specs.declared.reply.Reply.{Reply}
@@ -9,7 +10,7 @@ use Rattle.sessions.specs.Kept.{judge_kept}
 use Rattle.node_core.specs.Nodes.{StoreV, owns, has_numbers, session_in}
 use Rattle.node_core.specs.Rules.{Asked, ChangeOf, LookOf, NotServed, asked_of, said_in, Outcome, Silent, Looks, Repeats, Carries, outcome_of, outcome}
 use Rattle.node_core.specs.Serving.{serve, served_as, carries, carried_at, part_at, replayed_all, may_carry}
-use Rattle.node_core.proofs.Replayed.{owned_of, self_of, both_true, same_final_self, follows_so}
+use Rattle.node_core.proofs.Replayed.{owned_of, same_final_self, follows_so}
 
 no_look : (b : Bool) (reply : Reply) (said : Final) → cond b (Looks reply) Silent ≡ Carries said → ⊥
 no_look true reply said e = cc
@@ -19,8 +20,8 @@ carried_again : (store : StoreV) (ask : Ask) (now : ℕ) (said : Final) (a : Ask
     → replayed_all store (served_as store ask (Carries said)).records ≡ (served_as store ask (Carries said)).store
 carried_again store ask now said (ChangeOf dir name) asked is numbers =
     let o = owned_of (owns store.node dir 0) (judge_kept (session_in store.node dir 0 ask.client) ask.seq) (said_in store ask.call dir name) said (ap (λ x. carries x said) is ∙ same_final_self said) in
-    let zero : (part_at store (asked_of ask.call) == 0) ≡ true = self_of (part_at store (asked_of ask.call)) 0 (ap (part_at store) asked) in
-    let may : may_carry store.node dir ask.client ask.seq (part_at store (asked_of ask.call)) ≡ true = both_true _ _ (both_true _ _ zero (both_true _ _ numbers o.0)) o.1 in
+    let zero : (part_at store (asked_of ask.call) == 0) ≡ true = eq-eqb (part_at store (asked_of ask.call)) 0 (ap (part_at store) asked) in
+    let may : may_carry store.node dir ask.client ask.seq (part_at store (asked_of ask.call)) ≡ true = and_from _ _ (and_from _ _ zero (and_from _ _ numbers o.0)) o.1 in
     (follows_so store ask.client ask.seq (part_at store (asked_of ask.call)) ask.call said dir name asked may o.2).1 ∙ sym (ap (carried_at store ask.client ask.seq ask.call) asked)
 carried_again store ask now said (LookOf dir name) asked is numbers = absurd (no_look (owns store.node dir 0) _ said is)
 carried_again store ask now said NotServed asked is numbers = cc

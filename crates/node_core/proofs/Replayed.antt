@@ -1,6 +1,6 @@
 -- When a record may follow, and what replaying it comes to.
-use Rattle.std.proofs.Common.{◌≡◌, ◌∙◌, sym, ap, refl, ℕ, ◌==◌, ◌&&◌, Bool, true, false, cond, List, arith}
-use Rattle.std.proofs.lemmas.Bool.Decides.{nat_tests}
+use Rattle.std.proofs.Common.{◌≡◌, ◌∙◌, sym, ap, refl, ℕ, ◌==◌, ◌&&◌, Bool, true, false, cond, List}
+use Rattle.std.proofs.lemmas.Bool.{and_parts, and_from, eqb-true, eq-eqb, false_from_ne_true}
 use Rattle.mds_base.specs.declared.call.Call.{Call}
 use Rattle.mds_base.specs.declared.reply.Final.{Final}
 use Rattle.mds_base.specs.declared.reply.Final.TheVariants.{Created, CreatedDir, Exists, Removed, Missing, IsDir, Set, Ids, Loaded, Stale}
@@ -28,39 +28,21 @@ final_back (Ids n) = refl
 final_back (Loaded n) = refl
 final_back Stale = refl
 
-same_of : (a b : ℕ) → (a == b) ≡ true → a ≡ b
-same_of a b e = grind (arith, nat_tests)
-
-pub self_of : (a b : ℕ) → a ≡ b → (a == b) ≡ true
-self_of a b e = grind (arith, nat_tests)
-
-both : (a b : Bool) → (a && b) ≡ true → (a ≡ true) × (b ≡ true)
-both true b e = (refl, e)
-both false b e = cc
-
-pub both_true : (a b : Bool) → a ≡ true → b ≡ true → (a && b) ≡ true
-both_true true b e f = f
-both_true false b e f = e
-
 -- finals with one tag and one number are one
 pub same_finals : (a b : Final) → same_final a b ≡ true → a ≡ b
 same_finals a b e =
-    let h = both ((final_tag a).0 == (final_tag b).0) ((final_tag a).1 == (final_tag b).1) e in
-    let t = same_of (final_tag a).0 (final_tag b).0 h.0 in
-    let n = same_of (final_tag a).1 (final_tag b).1 h.1 in
+    let h = and_parts ((final_tag a).0 == (final_tag b).0) ((final_tag a).1 == (final_tag b).1) e in
+    let t = eqb-true (final_tag a).0 (final_tag b).0 h.0 in
+    let n = eqb-true (final_tag a).1 (final_tag b).1 h.1 in
     sym (final_back a) ∙ ap (λ x. final_of x (final_tag a).1) t ∙ ap (final_of (final_tag b).0) n ∙ final_back b
 
 pub same_final_self : (said : Final) → same_final said said ≡ true
-same_final_self said = both_true ((final_tag said).0 == (final_tag said).0) ((final_tag said).1 == (final_tag said).1) (self_of (final_tag said).0 (final_tag said).0 refl) (self_of (final_tag said).1 (final_tag said).1 refl)
-
-not_true : (b : Bool) → (b ≡ true → ⊥) → b ≡ false
-not_true true h = absurd (h refl)
-not_true false h = refl
+same_final_self said = and_from ((final_tag said).0 == (final_tag said).0) ((final_tag said).1 == (final_tag said).1) (eq-eqb (final_tag said).0 (final_tag said).0 refl) (eq-eqb (final_tag said).1 (final_tag said).1 refl)
 
 -- a record that may not follow changes nothing
 pub stays : (store : StoreV) (client seq part : ℕ) (call : Call) (said : Final) → (may_follow store (Served client seq part call said) ≡ true → ⊥) → IsReplayed store (Served client seq part call said) store.node store.rows false
 stays store client seq part call said never =
-    let e : may_follow store (Served client seq part call said) ≡ false = not_true _ never in
+    let e : may_follow store (Served client seq part call said) ≡ false = false_from_ne_true _ never in
     let r : replayed store (Served client seq part call said) ≡ store = ap (replayed_as store (Served client seq part call said)) e in
     record { follows' = sym e; node' = ap (λ (v : StoreV). v.node) (sym r); rows' = ap (λ (v : StoreV). v.rows) (sym r) }
 
@@ -74,8 +56,8 @@ look_carries false reply said = refl
 
 no_follow : (store : StoreV) (client seq part : ℕ) (call : Call) (said : Final) → carries (outcome store (ask_of client seq call) 0) said ≡ false → may_follow store (Served client seq part call said) ≡ true → ⊥
 no_follow store client seq part call said never e =
-    let h = both (has_numbers store.node) _ e in
-    let c = both (carries (outcome store (ask_of client seq call) 0) said) _ h.1 in
+    let h = and_parts (has_numbers store.node) _ e in
+    let c = and_parts (carries (outcome store (ask_of client seq call) 0) said) _ h.1 in
     let t = c.0 in cc
 
 pub not_change : (store : StoreV) (client seq part : ℕ) (call : Call) (said : Final) → asked_of call ≡ NotServed → IsReplayed store (Served client seq part call said) store.node store.rows false
@@ -99,11 +81,11 @@ owned_of false j own said e = cc
 pub follows_means : (store : StoreV) (client seq part : ℕ) (call : Call) (said : Final) (dir : ℕ) (name : List ℕ) → asked_of call ≡ ChangeOf dir name → may_follow store (Served client seq part call said) ≡ true
     → (may_carry store.node dir client seq part ≡ true) × (said ≡ said_in store call dir name)
 follows_means store client seq part call said dir name asked e =
-    let h = both (has_numbers store.node) _ e in
-    let c = both (carries (outcome store (ask_of client seq call) 0) said) (part == part_at store (asked_of call)) h.1 in
+    let h = and_parts (has_numbers store.node) _ e in
+    let c = and_parts (carries (outcome store (ask_of client seq call) 0) said) (part == part_at store (asked_of call)) h.1 in
     let o = owned_of (owns store.node dir 0) (judge_kept (session_in store.node dir 0 client) seq) (said_in store call dir name) said (sym (ap (λ x. carries (outcome_of store (ask_of client seq call) 0 x) said) asked) ∙ c.0) in
-    let zero : part ≡ 0 = same_of part (part_at store (asked_of call)) c.1 ∙ ap (part_at store) asked in
-    (both_true _ _ (both_true _ _ (self_of part 0 zero) (both_true _ _ h.0 o.0)) o.1, o.2)
+    let zero : part ≡ 0 = eqb-true part (part_at store (asked_of call)) c.1 ∙ ap (part_at store) asked in
+    (and_from _ _ (and_from _ _ (eq-eqb part 0 zero) (and_from _ _ h.0 o.0)) o.1, o.2)
 
 new_of : (j : Judged) → is_new_change j ≡ true → j ≡ New
 new_of New e = refl
@@ -118,10 +100,10 @@ pub record MayMeans (node : NodeV) (dir client seq part : ℕ) : Type 0 where
 
 pub carry_means : (node : NodeV) (dir client seq part : ℕ) → may_carry node dir client seq part ≡ true → MayMeans node dir client seq part
 carry_means node dir client seq part e =
-    let h = both ((part == 0) && (has_numbers node && owns node dir 0)) (is_new_change (judge_kept (session_in node dir 0 client) seq)) e in
-    let p = both (part == 0) (has_numbers node && owns node dir 0) h.0 in
-    let n = both (has_numbers node) (owns node dir 0) p.1 in
-    record { part' = same_of part 0 p.0; numbers = n.0; own = n.1; newer = new_of (judge_kept (session_in node dir 0 client) seq) h.1 }
+    let h = and_parts ((part == 0) && (has_numbers node && owns node dir 0)) (is_new_change (judge_kept (session_in node dir 0 client) seq)) e in
+    let p = and_parts (part == 0) (has_numbers node && owns node dir 0) h.0 in
+    let n = and_parts (has_numbers node) (owns node dir 0) p.1 in
+    record { part' = eqb-true part 0 p.0; numbers = n.0; own = n.1; newer = new_of (judge_kept (session_in node dir 0 client) seq) h.1 }
 
 -- a change that may follow is carried out
 pub follows_so : (store : StoreV) (client seq part : ℕ) (call : Call) (said : Final) (dir : ℕ) (name : List ℕ) → asked_of call ≡ ChangeOf dir name → may_carry store.node dir client seq part ≡ true → said ≡ said_in store call dir name
@@ -134,6 +116,6 @@ follows_so store client seq part call said dir name asked may said' =
     ∙ ap (λ j. by_judged j (said_in store call dir name)) m.newer
     ∙ ap Carries (sym said') in
     let first : carries (outcome store (ask_of client seq call) 0) said ≡ true = ap (λ o. carries o said) is_carried ∙ same_final_self said in
-    let second : (part == part_at store (asked_of call)) ≡ true = self_of part (part_at store (asked_of call)) (m.part' ∙ sym (ap (part_at store) asked)) in
-    let can : may_follow store (Served client seq part call said) ≡ true = both_true (has_numbers store.node) _ m.numbers (both_true _ _ first second) in
+    let second : (part == part_at store (asked_of call)) ≡ true = eq-eqb part (part_at store (asked_of call)) (m.part' ∙ sym (ap (part_at store) asked)) in
+    let can : may_follow store (Served client seq part call said) ≡ true = and_from (has_numbers store.node) _ m.numbers (and_from _ _ first second) in
     (can, ap (replayed_as store (Served client seq part call said)) can ∙ ap (carried_at store client seq call) asked)

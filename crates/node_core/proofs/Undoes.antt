@@ -1,5 +1,5 @@
 -- What serving a message changed in a node can be taken back.
-use Rattle.std.proofs.Common.{◌≡◌, ◌∙◌, sym, ap, subst, refl, ℕ, Bool, true, false, cond, not, List, Option, Some, None, is_some, IsSome, unwrap_or, inl, inr}
+use Rattle.std.proofs.Common.{◌≡◌, ◌∙◌, sym, ap, subst, refl, ℕ, Bool, true, false, cond, List, Option, Some, None, is_some, IsSome, unwrap_or, inl, inr}
 use Rattle.std.specs.declared.cmp.Ordering.{Ordering}
 use Rattle.std.specs.Cmp.{IsTotalOrder, nat_cmp_total}
 use Rattle.std.specs.Map.{lookup}
@@ -25,15 +25,9 @@ use Rattle.node_core.specs.Serving.{serve, served_as, carried_at}
 use Rattle.node_core.specs.Edits.{node_noted}
 use Rattle.node_core.specs.Undoing.{before_in, before_asked, before, part_undone, parts_back, parts_undone, undone}
 use Rattle.node_core.proofs.Keys.{same_or_apart}
-use Rattle.node_core.proofs.Views.{parts_total, exact_parts, insert_here, remove_here}
+use Rattle.node_core.proofs.Views.{parts_total, exact_parts, insert_here, remove_here, insert_own}
 
 module _ {K X : Type 0} {R : K → K → Ordering} (total : IsTotalOrder R) (exact : map.IsAntisymmetric R) where
-  insert_own : (m : map.FinMap R X) (k : K) (v : X) → map.get m k ≡ Some v → map.insert m k v ≡ m
-  insert_own m k v is = map.same_map total exact _ _ (λ q. elim (same_or_apart total exact q k) [
-    | inl e ↦ ap (map.get (map.insert m k v)) e ∙ insert_here total m k v ∙ sym is ∙ ap (map.get m) (sym e)
-    | inr e ↦ insert_apart total exact m k v q e
-  ])
-
   remove_own : (m : map.FinMap R X) (k : K) → map.get m k ≡ None → map.remove m k ≡ m
   remove_own m k is = map.same_map total exact _ _ (λ q. elim (same_or_apart total exact q k) [
     | inl e ↦ ap (map.get (map.remove m k)) e ∙ remove_here total m k ∙ sym is ∙ ap (map.get m) (sym e)
@@ -178,11 +172,3 @@ pub undone_new : (es fs : List (PartKey × Part)) (undo : Undo) → undo.there �
 undone_new es fs undo there takes =
     one_taken parts_total exact_parts es fs (undo.dir, 0) takes
     ∙ there_so (map.from_entries es) undo false there
-
-pub is_not : (b : Bool) → not b ≡ true → b ≡ false
-is_not true e = cc
-is_not false e = refl
-
-pub is_so : (b : Bool) → not b ≡ false → b ≡ true
-is_so true e = refl
-is_so false e = cc

@@ -1,5 +1,5 @@
 -- What a partition keeps of a client, and the row of a name, once a change was carried out.
-use Rattle.std.proofs.Common.{◌≡◌, ◌∙◌, sym, ap, refl, ℕ, ◌+◌, length, List, Option, Some, None, cond, unwrap_or, subst, Bool, true, false, [], ◌∷◌}
+use Rattle.std.proofs.Common.{◌≡◌, ◌∙◌, sym, ap, refl, ℕ, ◌+◌, length, List, Option, Some, None, cond, unwrap_or, subst, Bool, true, false, [], ◌∷◌, inl, inr}
 use Rattle.std.specs.declared.cmp.Ordering.{Ordering}
 use Rattle.std.specs.Ordering.{nat_cmp, eq_by_cmp}
 use Rattle.std.specs.Cmp.{IsTotalOrder, nat_cmp_total, eq_by_cmp_equiv}
@@ -20,6 +20,7 @@ use Rattle.mds_base.proofs.Maps.{insert_apart, remove_apart}
 use Rattle.mds_base.proofs.Places.{places_total}
 use Rattle.mds_base.proofs.RowMaps.{row_keys_total, exact_row_keys}
 use Rattle.node_core.specs.declared.part.Part.{Part}
+use Rattle.node_core.proofs.Keys.{same_or_apart}
 use Rattle.node_core.specs.Nodes.{NodeV, PartKey, part_cmp, part_in, new_part, session_in, noted_in, row_key, row_in, rows_after, edited_rows, edit_in, edited_count, cleared, cleared_part}
 
 pub parts_total : IsTotalOrder part_cmp
@@ -33,6 +34,13 @@ insert_here {R = R} total m k v = map.get-insert total m k v k ∙ ap (λ b. con
 
 pub remove_here : {K X : Type 0} {R : K → K → Ordering} → IsTotalOrder R → (m : map.FinMap R X) (k : K) → map.get (map.remove m k) k ≡ None
 remove_here {R = R} total m k = map.get-remove total m k k ∙ ap (λ b. cond b None (map.get m k)) ((eq_by_cmp_equiv total).refl k)
+
+-- what stands at a key and is put there again changes nothing
+pub insert_own : {K X : Type 0} {R : K → K → Ordering} → IsTotalOrder R → map.IsAntisymmetric R → (m : map.FinMap R X) (k : K) (v : X) → map.get m k ≡ Some v → map.insert m k v ≡ m
+insert_own total exact m k v is = map.same_map total exact _ _ (λ q. elim (same_or_apart total exact q k) [
+  | inl e ↦ ap (map.get (map.insert m k v)) e ∙ insert_here total m k v ∙ sym is ∙ ap (map.get m) (sym e)
+  | inr e ↦ insert_apart total exact m k v q e
+])
 
 -- what an edit makes of an entry
 abbrev pub edited_entry : Edit → Option Attr → Option Attr

@@ -4,6 +4,8 @@ use Rattle.std.specs.Prelude.{ℕ, ◌+◌, ◌*◌, ◌-◌, ◌^◌, ◌==◌,
 use Rattle.std.specs.declared.cmp.Ordering.{Ordering}
 use Rattle.std.specs.Ordering.{nat_cmp, ordering_then}
 use Rattle.std.specs.FinMap as map
+use Rattle.std.specs.FinSet as set
+use Rattle.bitmap.specs.Bits.{Bits}
 use Rattle.std.specs.Prelude.{map as list_map}
 use Rattle.mds_base.specs.declared.attr.Attr.{Attr}
 use Rattle.mds_base.specs.declared.call.Call.{Call}
@@ -88,6 +90,10 @@ server_for servers dir part = server_of dir part servers
 -- the partition that a node locates for a name of a directory: nothing splits, so each directory is its partition 0
 abbrev pub part_for : NodeV → ℕ → List ℕ → ℕ
 part_for node dir name = 0
+
+-- the partitions of a directory that a node knows: nothing splits, so there is partition 0 alone
+abbrev pub bits_in : NodeV → ℕ → Bits
+bits_in node dir = set.insert set.empty 0
 
 -- whether a partition lies on the node's server
 abbrev pub owns : NodeV → ℕ → ℕ → Bool

@@ -76,6 +76,10 @@ serve_all store (msg ∷ msgs) now =
       outputs = (serve store msg now).outputs ++ (serve_all (serve store msg now).store msgs now).outputs;
     }
 
+-- the transfers of the partitions that move, by directory and number: nothing splits yet, so none moves
+abbrev pub reminders : StoreV → List Msg
+reminders store = []
+
 -- finals by a tag and a number
 abbrev pub final_tag : Final → ℕ × ℕ
 final_tag Created = (1, 0)

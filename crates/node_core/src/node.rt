@@ -2,14 +2,14 @@ ghost use Rattle.std.specs.Prelude.{◌≡◌, ℕ, ◌+◌, ◌==◌, ◌^◌, 
 ghost use Rattle.std.specs.FinMap as map;
 ghost use Rattle.sessions.specs.declared.kept.Judged.{Judged};
 ghost use Rattle.sessions.specs.Kept.{judge_kept};
-ghost use Rattle.node_core.specs.Nodes.{part_cmp, new_part, new_node, owns, session_in, has_numbers, parts_cleared};
+ghost use Rattle.node_core.specs.Nodes.{part_cmp, new_part, new_node, owns, session_in, has_numbers, parts_cleared, bits_in};
 ghost use Rattle.mds_base.specs.RowsCause.{HasRowsCause};
 ghost use Rattle.node_core.specs.Edits.{parts_noted, node_noted, numbers_of};
 ghost use Rattle.node_core.specs.Rules.{ChangeOf, LookOf, asked_of, found};
 ghost use Rattle.records.specs.declared.record.Record.{Record};
 ghost use Rattle.records.specs.declared.msg.Msg.{Msg};
 ghost use Rattle.node_core.specs.Planning.{noted_by, written_by, IsNewer, IsPlanOf, IsPlan};
-ghost use Rattle.node_core.specs.Serving.{serve, serve_ask, IsServed, IsReplayed, may_carry, restarted, is_head};
+ghost use Rattle.node_core.specs.Serving.{serve, serve_ask, IsServed, IsReplayed, may_carry, restarted, is_head, reminders};
 ghost use Rattle.node_core.specs.Undoing.{before, before_in, undone};
 ghost use Rattle.node_core.specs.Ranges.{DirFits, RecordFits, dir_of};
 
@@ -18,9 +18,10 @@ use crate::plan::{Change, Plan};
 use crate::rows::{key_of, write};
 use crate::told::{answered, nothing, recorded};
 use crate::undo::{Undo, undo_in};
+use bitmap::Bitmap;
 use mds_base::{Ask, Attr, Call, Final, Name, Reply, Rows, RowsFault, Setup};
 use placement::zeroth;
-use records::{Handled, Msg, Record};
+use records::{Handled, Msg, MsgList, Record};
 use sessions::{Judged, Kept};
 use std::alloc::{AllocError, Global};
 use std::collections::BTreeMap;
@@ -65,6 +66,27 @@ impl Node {
             next: u64::from(server) * (1 << 40) + 2,
             parts: BTreeMap::new(alloc),
         }
+    }
+
+    /// A copy of the node; it is refused only where there is no memory for it.
+    pub fn copy(&self, alloc: Global) -> Result<Node, AllocError>
+        ensures { IfOk result (λ node. node ≡ self.now) }
+    {
+        Ok(Node {
+            server: self.server,
+            setup: self.setup,
+            next: self.next,
+            parts: copy_of(alloc, &self.parts)?,
+        })
+    }
+
+    /// The bitmap of a directory, as far as the node knows it: partition 0 alone, since nothing splits yet. It takes
+    /// no memory.
+    pub fn bitmap(&self, dir: u64) -> Bitmap
+        ensures { result ≡ bits_in self.now dir }
+    {
+        let _dir = dir;
+        Bitmap::zero()
     }
 
     /// The next directory number that the node gives.
@@ -135,6 +157,17 @@ impl Node {
                 Ok(handled)
             }
         }
+    }
+
+    /// The transfers that are to be sent again, of the partitions that move: none, since nothing splits yet
+    /// (`docs/DEFINITIONS.md`, "Reminders"). The rows stay as they are.
+    pub fn remind<R: Rows>(&self, alloc: Global, rows: &mut R) -> Result<MsgList, RowsFault>
+        ensures ok { IfOk result (λ list. list ≡ reminders (record { node = self.now; rows = R.contents rows.old })) }
+        ensures rows { R.contents rows.new ≡ R.contents rows.old }
+        ensures cause { HasRowsCause (R.faults rows.old) (R.faults rows.new) result }
+    {
+        let _rows = rows;
+        Ok(MsgList::new(alloc))
     }
 
     // Notes a change and writes its row. The note comes first, since it can be taken back without memory.
@@ -550,6 +583,20 @@ fn note_in(
     part.note(client, seq, weighed, before)?;
     parts.insert((dir, 0), part)?;
     Ok(())
+}
+
+fn copy_of(
+    alloc: Global,
+    parts: &BTreeMap<(u64, u32), Part>,
+) -> Result<BTreeMap<(u64, u32), Part>, AllocError>
+    ensures { IfOk result (λ copy. map.from_entries {R = part_cmp} copy.entries ≡ map.from_entries parts.now.entries) }
+{
+    let _parts = parts.len();
+    let mut copy = BTreeMap::new(alloc);
+    for (key, part) in parts {
+        copy.insert(*key, part.copy(alloc)?)?;
+    }
+    Ok(copy)
 }
 
 // Forgets the sessions of all partitions. It takes no memory.

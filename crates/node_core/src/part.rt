@@ -53,6 +53,16 @@ impl Part {
         }
     }
 
+    /// A copy of the partition; it is refused only where there is no memory for it.
+    pub fn copy(&self, alloc: Global) -> Result<Part, AllocError>
+        ensures { IfOk result (λ part. part ≡ self.now) }
+    {
+        Ok(Part {
+            count: self.count,
+            sessions: self.sessions.copy(alloc)?,
+        })
+    }
+
     /// Notes a change that was carried out: its row is counted, and its client's session keeps it. It is refused
     /// where there is no memory for it, or where there would be more rows than a u64 counts; nothing changes then.
     pub fn note(

@@ -17,7 +17,7 @@ pub struct Plan {
 /// A change on a name that is still to be made.
 #[derive(Debug, Drop)]
 pub struct Change {
-    /// Where its note and its row take their memory.
+    /// What its note takes its memory from.
     pub alloc: Global,
     /// Where its row stands.
     pub key: RowKey,

@@ -17,12 +17,20 @@ use Rattle.gate_log.specs.Log.{HoldsLog, IsBeforeOrAfter, log_bytes, log_length}
 use Rattle.gate_log.specs.LogState as logs
 use Rattle.gate_log.specs.LogState.{LogState, IsLogOf, IsReady, HasBodies}
 use Rattle.node_core.specs.Nodes.{NodeV, StoreV}
-use Rattle.node_store.specs.Opening.{StandsLike, StandsOpened, StandAlike, IsAsBefore, IsAsOpened, IsOpenLog}
+use Rattle.node_store.specs.Opening.{StandsLike, StandAlike, IsAsBefore, IsOpenLog}
 use Rattle.node_store.specs.Reading.{IsRefusal, IsBad}
 use Rattle.node_store.specs.Stands.{FileStandsFor, StandFor, IsBody, head_of, new_store, opened_store}
 use Rattle.node_store.specs.Store.{HoldsStore, IsKept, KeepsAny, StandsForAny, StandsForEither}
 use Rattle.node_store.proofs.OpeningLaws.{one_store}
 use Rattle.node_store.proofs.ReadingLogs.{stand_first}
+
+-- the file stands for each store for which the bytes stand once it was opened
+abbrev pub StandsOpened : ℕ → Setup → List ℕ → List ℕ → Type 0
+StandsOpened server setup bytes file = (store : StoreV) → FileStandsFor server setup bytes store → FileStandsFor server setup file (opened_store store)
+
+-- an image is one from before, or stands for what the bytes stand for, or for what they stand for once it was opened
+abbrev pub IsAsOpened : ℕ → Setup → (Image → Type 0) → List ℕ → Image → Type 0
+IsAsOpened server setup old bytes image = IsAsBefore server setup old bytes image ⊎ StandsOpened server setup bytes (image 1)
 
 -- ---- the first body of a log
 

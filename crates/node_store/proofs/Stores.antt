@@ -1,5 +1,5 @@
 -- A server on a disk: what its parts say of it.
-use Rattle.std.proofs.Common.{◌≡◌, ◌∙◌, sym, ap, subst, refl, ℕ, List, [], Bool, true, false, cond, arith, Option, Some, None, inl, inr, ◌⊎◌}
+use Rattle.std.proofs.Common.{◌≡◌, ◌∙◌, sym, ap, subst, refl, ℕ, List, [], Bool, true, false, cond, arith, Option, Some, None, inl, inr, ◌⊎◌, IsTrue}
 use Rattle.mds_base.specs.declared.setup.Setup.{Setup}
 use Rattle.records.specs.declared.record.Record.{Record}
 use Rattle.gate_log.specs.Log.{HoldsLog}
@@ -61,6 +61,12 @@ some_store store = Some store
 pub was_up : (down : Bool) (inside store : StoreV) → cond down None (Some inside) ≡ Some store → (down ≡ false) × (inside ≡ store)
 was_up true inside store e = absurd (let h : None ≡ some_store store = e in cc)
 was_up false inside store e = let h : some_store inside ≡ Some store = e in (refl, cc)
+
+-- a server that is not down is up with some store
+pub is_up : (down : Bool) (up : Option StoreV) → down ≡ false → (up ≡ None → IsTrue down) → (store : StoreV) × (up ≡ Some store)
+is_up true up e tells = cc
+is_up false None e tells = let never : false ≡ true = tells refl in cc
+is_up false (Some store) e tells = (store, refl)
 
 -- the store that a server's parts show
 abbrev pub shown : {D : Type 0} → D → ℕ → Setup → LogState → StoreV → Bool → List Record → Store D

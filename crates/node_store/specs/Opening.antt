@@ -3,22 +3,14 @@ use Rattle.std.specs.Prelude.{◌≡◌, ℕ, ◌<◌, ◌^◌, ◌⊎◌, List,
 use Rattle.mds_base.specs.declared.setup.Setup.{Setup}
 use Rattle.mds_base.specs.declared.store_fault.Damage.{Damage}
 use Rattle.gate_log.specs.LogState.{LogState, IsReady}
-use Rattle.mds_base.specs.declared.store_fault.StoreFault.{StoreFault}
-use Rattle.mds_base.specs.declared.store_fault.StoreFault.TheVariants as faults
-use Rattle.mds_out.specs.declared.disk.DiskFault.{DiskFault}
-use Rattle.mds_out.specs.declared.disk.DiskFault.TheVariants.{Device, OutOfMemory}
 use Rattle.mds_out.specs.Disk.{Image, Contents, Lengths}
 use Rattle.node_core.specs.Nodes.{StoreV}
-use Rattle.node_store.specs.Stands.{FileStandsFor, opened_store}
+use Rattle.node_store.specs.Stands.{FileStandsFor}
 use Rattle.node_store.specs.Damage.{IsDamaged}
 
 -- the file stands for each store for which the bytes stand
 abbrev pub StandsLike : ℕ → Setup → List ℕ → List ℕ → Type 0
 StandsLike server setup bytes file = (store : StoreV) → FileStandsFor server setup bytes store → FileStandsFor server setup file store
-
--- the file stands for each such store once it was opened
-abbrev pub StandsOpened : ℕ → Setup → List ℕ → List ℕ → Type 0
-StandsOpened server setup bytes file = (store : StoreV) → FileStandsFor server setup bytes store → FileStandsFor server setup file (opened_store store)
 
 -- two files stand for the same stores, and what is damaged in the second is so in the first
 pub record StandAlike (server : ℕ) (setup : Setup) (bytes file : List ℕ) : Type 0 where
@@ -30,18 +22,9 @@ pub record StandAlike (server : ℕ) (setup : Setup) (bytes file : List ℕ) : T
 abbrev pub IsAsBefore : ℕ → Setup → (Image → Type 0) → List ℕ → Image → Type 0
 IsAsBefore server setup old bytes image = old image ⊎ StandsLike server setup bytes (image 1)
 
--- or it stands for what they stand for once it was opened
-abbrev pub IsAsOpened : ℕ → Setup → (Image → Type 0) → List ℕ → Image → Type 0
-IsAsOpened server setup old bytes image = IsAsBefore server setup old bytes image ⊎ StandsOpened server setup bytes (image 1)
-
 -- the log of file 1 is open
 pub record IsOpenLog (log : LogState) (seen : Contents) (sizes : Lengths) (images : Image → Type 0) : Type 0 where
   pub file : log.file ≡ 1
   pub running : log.stopped ≡ false
   pub ready : IsReady log seen sizes images
   pub short : log.length < 2 ^ 63
-
--- what a store answers where its disk refused
-abbrev pub IsDiskFault : DiskFault → StoreFault → Type 0
-IsDiskFault Device fault = fault ≡ faults.Device
-IsDiskFault OutOfMemory fault = fault ≡ faults.OutOfMemory

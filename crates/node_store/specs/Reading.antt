@@ -9,6 +9,8 @@ use Rattle.mds_base.specs.declared.store_fault.StoreFault.{StoreFault}
 use Rattle.mds_base.specs.declared.store_fault.StoreFault.TheVariants as faults
 use Rattle.gate_log.specs.declared.gate_log.LogFault.{LogFault}
 use Rattle.gate_log.specs.declared.gate_log.LogFault.TheVariants.{Device, Stopped, BadLog, OutOfMemory}
+use Rattle.mds_out.specs.declared.disk.DiskFault.{DiskFault}
+use Rattle.mds_out.specs.declared.disk.DiskFault.TheVariants as disk_faults
 use Rattle.mds_out.specs.Known.{OnTold}
 use Rattle.records.specs.declared.record.Record.{Record}
 use Rattle.records.specs.declared.record.Record.TheVariants as records
@@ -107,6 +109,11 @@ store_fault_of Device = faults.Device
 store_fault_of Stopped = faults.Stopped
 store_fault_of (BadLog place) = faults.Damaged 1 place damages.Spelling
 store_fault_of OutOfMemory = faults.OutOfMemory
+
+-- what a store answers where its disk refused
+abbrev pub disk_fault_of : DiskFault → StoreFault
+disk_fault_of disk_faults.Device = faults.Device
+disk_fault_of disk_faults.OutOfMemory = faults.OutOfMemory
 
 -- the store answers neither Stopped nor Room; a damage is of file 1, and this holds of the bytes that the disk tells
 abbrev pub IsRefusal : (ℕ → Damage → List ℕ → Type 0) → Option (List ℕ) → StoreFault → Type 0

@@ -4,8 +4,6 @@ use Rattle.gate_log.specs.declared.gate_log.LogFault.{LogFault}
 use Rattle.gate_log.specs.declared.gate_log.LogFault.TheVariants.{Device, Stopped, BadLog, OutOfMemory}
 use Rattle.mds_base.specs.declared.store_fault.StoreFault.{StoreFault}
 use Rattle.mds_base.specs.declared.store_fault.StoreFault.TheVariants as faults
-use Rattle.mds_out.specs.declared.disk.DiskFault.{DiskFault}
-use Rattle.mds_out.specs.declared.disk.DiskFault.TheVariants as disk_faults
 use Rattle.mds_out.specs.Fault.{Rose}
 use Rattle.records.specs.declared.record.Record.{Record}
 use Rattle.node_store.specs.declared.serve.Refusal.{Refusal}
@@ -43,8 +41,3 @@ IsServeFault faults.Stopped = ⊥
 IsServeFault (faults.Damaged file place damage) = ⊥
 IsServeFault faults.Room = ⊥
 IsServeFault faults.OutOfMemory = Unit {0}
-
--- what a store answers where its disk refused
-abbrev pub disk_fault_of : DiskFault → StoreFault
-disk_fault_of disk_faults.Device = faults.Device
-disk_fault_of disk_faults.OutOfMemory = faults.OutOfMemory

@@ -7,23 +7,21 @@ ghost use Rattle.mds_out.specs.Known.{OnKnown, OnTold};
 ghost use Rattle.records.specs.Spelling.{IsRecord, IsHead, record_spelling};
 ghost use Rattle.gate_log.specs.Calls.{StaysTold};
 ghost use Rattle.node_core.specs.Nodes.{StoreV};
-ghost use Rattle.node_store.specs.Opening.{StandAlike, IsAsBefore, IsOpenLog, IsDiskFault};
+ghost use Rattle.node_store.specs.Opening.{StandAlike, IsAsBefore, IsOpenLog};
 ghost use Rattle.node_store.specs.Parts.{IsNodeOf};
 ghost use Rattle.node_store.specs.Reading.{IsRefusal, IsBad};
 ghost use Rattle.node_store.specs.Serve.{HasStoreCause};
 ghost use Rattle.node_store.specs.Stands.{FileStandsFor, opened_store};
 ghost use Rattle.node_store.specs.Store.{IsKept, KeepsAny, StandsForAny, StandsForEither};
 
-use crate::reading::{read_log, store_fault};
+use crate::reading::{disk_fault, read_log, store_fault};
+use crate::serve::LONGEST;
 use gate_log::{GateLog, Piece};
 use mds_base::{MapRows, Setup, StoreFault};
-use mds_out::{Disk, DiskFault};
+use mds_out::Disk;
 use node_core::Node;
 use records::{Record, write};
 use std::alloc::{AllocError, Global};
-
-/// A log is no longer than this before an append.
-const LONGEST: u64 = 1 << 62;
 
 /// Opens the disk of a server for a new run: its log is made where file 1 has fewer than two bytes, and read else; then
 /// the run's beginning is appended, and the node keeps no session.
@@ -88,15 +86,6 @@ fn synced_length<D: Disk>(disk: &mut D) -> Result<u64, StoreFault>
             Err(fault) => Err(disk_fault(fault)),
         },
         Err(fault) => Err(disk_fault(fault)),
-    }
-}
-
-fn disk_fault(fault: DiskFault) -> StoreFault
-    ensures { IsDiskFault fault result }
-{
-    match fault {
-        DiskFault::Device => StoreFault::Device,
-        DiskFault::OutOfMemory => StoreFault::OutOfMemory,
     }
 }
 

@@ -10,11 +10,11 @@ ghost use Rattle.node_store.specs.Parts.{IsNodeOf};
 ghost use Rattle.node_store.specs.Serve.{HasStoreCause};
 ghost use Rattle.node_store.specs.Stands.{new_store};
 ghost use Rattle.node_store.specs.Store.{HoldsStore};
-ghost use Rattle.node_store.specs.Reading.{TakesFirst, IsBodyRead, IsHeadRead, IsHeadFound, IsHeadOf, IsFrontOf, HasReplayed, ReplaysOn, IsRefusal, IsBad, store_fault_of};
+ghost use Rattle.node_store.specs.Reading.{TakesFirst, IsBodyRead, IsHeadRead, IsHeadFound, IsHeadOf, IsFrontOf, HasReplayed, ReplaysOn, IsRefusal, IsBad, store_fault_of, disk_fault_of};
 
 use gate_log::{GateLog, LogFault};
 use mds_base::{Damage, Head, MapRows, Setup, StoreFault};
-use mds_out::Disk;
+use mds_out::{Disk, DiskFault};
 use node_core::Node;
 use records::{Record, RecordFault, read};
 use std::alloc::{AllocError, Global};
@@ -180,6 +180,16 @@ pub(crate) fn store_fault(fault: LogFault) -> StoreFault
             damage: Damage::Spelling,
         },
         LogFault::OutOfMemory => StoreFault::OutOfMemory,
+    }
+}
+
+/// What a store answers where its disk refused a call.
+pub(crate) fn disk_fault(fault: DiskFault) -> StoreFault
+    ensures { result ≡ disk_fault_of fault }
+{
+    match fault {
+        DiskFault::Device => StoreFault::Device,
+        DiskFault::OutOfMemory => StoreFault::OutOfMemory,
     }
 }
 

@@ -9,29 +9,18 @@ ghost use Rattle.node_core.specs.Nodes.{StoreV};
 ghost use Rattle.node_core.specs.Serving.{restarted, replayed_all};
 ghost use Rattle.node_store.specs.Parts.{IsNodeOf};
 ghost use Rattle.node_store.specs.Reading.{IsRefusal};
-ghost use Rattle.node_store.specs.Refused.{disk_fault_of};
 ghost use Rattle.node_store.specs.Serve.{IsAllOrNone, HasStoreCause};
 ghost use Rattle.node_store.specs.Stands.{StandsForNone};
 ghost use Rattle.node_store.specs.Store.{IsKept, IsDownAt, KeepsStore};
 
 use crate::NodeStore;
-use crate::reading::{read_log, store_fault};
+use crate::reading::{disk_fault, read_log, store_fault};
 use gate_log::GateLog;
 use mds_base::{Damage, MapRows, Setup, StoreFault};
-use mds_out::{Disk, DiskFault};
+use mds_out::Disk;
 use node_core::Node;
 use records::RecordList;
 use std::alloc::Global;
-
-// What a store answers where its disk refused.
-fn disk_fault(fault: DiskFault) -> StoreFault
-    ensures { result ≡ disk_fault_of fault }
-{
-    match fault {
-        DiskFault::Device => StoreFault::Device,
-        DiskFault::OutOfMemory => StoreFault::OutOfMemory,
-    }
-}
 
 // Reads a log that was opened. One that has no body is that of no server.
 fn read_whole<D: Disk>(

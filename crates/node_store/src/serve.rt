@@ -23,8 +23,8 @@ use node_core::Node;
 use records::{Handled, Msg, Record, RecordList, write};
 use std::alloc::{AllocError, Global};
 
-/// Logs are no longer than this before an append.
-const LONGEST: u64 = 1 << 62;
+/// A log is no longer than this before an append.
+pub(crate) const LONGEST: u64 = 1 << 62;
 
 // Records as the bytes of one body. A body is shorter than 2^31 bytes: more is want of memory.
 fn spelled(alloc: Global, items: &[Record]) -> Result<Vec<u8>, AllocError>

@@ -1,3 +1,14 @@
+pub mod Closings
+pub mod Cleared
+pub mod Pairs
+pub mod Found
+pub mod Begins
+pub mod Refusals
+pub mod Opened
+pub mod Giving
+pub mod Raising
+pub mod Freshly
+pub mod Leaving
 pub mod Sets
 pub mod Seats
 pub mod Named
@@ -8,6 +19,7 @@ pub mod Taking
 pub mod Carried
 pub mod Arming
 pub mod Due
+pub mod Numbers
 pub mod Standing
 pub mod Outputs
 pub mod Serving

@@ -58,36 +58,28 @@ module _ {D : Type 0} (seen : D → Contents) (images : D → Image → Type 0) 
   mended_faults faults = ap (λ (s : Store (Fused D)). fused_faults faults s.disk) same
 
 module _ {X : Type 0} (seen : X → Contents) (images : X → Image → Type 0) (store mid new : Store X) where
-  pub still_on : IsDownStill seen images store mid → StaysTold (seen mid.disk 1) (seen new.disk 1) → (new.server ≡ mid.server) × (new.setup ≡ mid.setup) → new.doubt ≡ mid.doubt → ((owed : StoreV) → IsDownAt seen images mid owed → IsDownAt seen images new owed) → IsDownStill seen images store new
-  still_on s told same doubt at = record {
-    told = λ e. told_stays (seen mid.disk 1) (seen new.disk 1) told (s.told e);
-    server = same.0 ∙ s.server;
-    setup = same.1 ∙ s.setup;
-    doubt = doubt ∙ s.doubt;
-    at = λ owed d. at owed (s.at owed d);
+  -- what a restart makes of a server as it was before
+  pub revived_on : (now : ℕ) (made : List Made) → IsDownStill seen images store mid → IsRevived seen images mid new now made → IsRevived seen images store new now made
+  revived_on now made s r = record {
+    kept = r.kept;
+    restarted' = record {
+      told = λ e. r.restarted'.told (s.told e);
+      server = r.restarted'.server ∙ s.server;
+      setup = r.restarted'.setup ∙ s.setup;
+      all_or_none = subst (λ (l : List Record). IsAllOrNone r.kept (length l)) s.doubt r.restarted'.all_or_none;
+      up = λ owed d. subst (λ (l : List Record). OnTold (seen new.disk 1) (λ _. new.up ≡ Some (restarted (replayed_all owed (take r.kept l)) now))) s.doubt (r.restarted'.up owed (s.at owed d));
+    };
+    entries = r.entries ∙ ap (λ (l : List Record). changes_of (take r.kept l)) s.doubt;
   }
 
-  pub restarted_on : (kept now : ℕ) → IsDownStill seen images store mid → StaysTold (seen mid.disk 1) (seen new.disk 1) → (new.server ≡ mid.server) × (new.setup ≡ mid.setup) → IsAllOrNone kept (length mid.doubt)
-      → ((owed : StoreV) → IsDownAt seen images mid owed → OnTold (seen new.disk 1) (λ _. new.up ≡ Some (restarted (replayed_all owed (take kept mid.doubt)) now))) → IsRestarted seen images store new kept now
-  restarted_on kept now s told same all up = record {
-    told = λ e. told_stays (seen mid.disk 1) (seen new.disk 1) told (s.told e);
-    server = same.0 ∙ s.server;
-    setup = same.1 ∙ s.setup;
-    all_or_none = subst (λ (l : List Record). IsAllOrNone kept (length l)) s.doubt all;
-    up = λ owed d. subst (λ (l : List Record). OnTold (seen new.disk 1) (λ _. new.up ≡ Some (restarted (replayed_all owed (take kept l)) now))) s.doubt (up owed (s.at owed d));
+  pub still_after : IsDownStill seen images store mid → IsDownStill seen images mid new → IsDownStill seen images store new
+  still_after s t = record {
+    told = λ e. t.told (s.told e);
+    server = t.server ∙ s.server;
+    setup = t.setup ∙ s.setup;
+    doubt = t.doubt ∙ s.doubt;
+    at = λ owed d. t.at owed (s.at owed d);
   }
-
--- the entries of the records that were kept
-module _ {X : Type 0} (seen : X → Contents) (images : X → Image → Type 0) (store new : Store X) (kept now : ℕ) (r : IsRestarted seen images store new kept now) where
-  pub none_revived : (made : List Made) → kept ≡ 0 → made ≡ [] → IsRevived seen images store new now made
-  none_revived made none empty = record { kept = kept; restarted' = r; entries = empty ∙ sym (ap (λ k. changes_of (take k store.doubt)) none) }
-
-  pub all_revived : (made : List Made) → (kept ≡ 0 → ⊥) → made ≡ changes_of store.doubt → IsRevived seen images store new now made
-  all_revived made some are = record { kept = kept; restarted' = r; entries = are ∙ sym (ap changes_of (whole kept store.doubt some r.all_or_none)) }
-    where
-      whole : (k : ℕ) (items : List Record) → (k ≡ 0 → ⊥) → IsAllOrNone k (length items) → take k items ≡ items
-      whole k items some (inl none) = absurd (some none)
-      whole k items some (inr all) = ap (λ n. take n items) all ∙ take_all items
 
 -- The simulation
 

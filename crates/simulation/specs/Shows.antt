@@ -1,5 +1,5 @@
 -- What servers on their disks, clients and messages of one process show: a run so far.
-use Rattle.std.specs.Prelude.{◌≡◌, ℕ, ◌⊎◌, ◌&&◌, ◌==◌, ◌<◌, ◌≤◌, zero, suc, Bool, true, false, not, is_some, List, [], ◌∷◌, ◌++◌, length, Option, Some, None}
+use Rattle.std.specs.Prelude.{◌≡◌, ℕ, min, ◌⊎◌, ◌&&◌, ◌==◌, ◌<◌, ◌≤◌, zero, suc, Bool, true, false, not, is_some, List, [], ◌∷◌, ◌++◌, length, Option, Some, None}
 use Rattle.std.specs.Prelude.{map as list_map}
 use Rattle.std.specs.List.{slice_get}
 use Rattle.std.specs.FinSet as set
@@ -150,14 +150,23 @@ store_has_numbers (Some store) = up_has_numbers store.up
 abbrev pub has_numbers_at : {X : Type 0} → SimulationV X → ℕ → Bool
 has_numbers_at sim server = store_has_numbers (slice_get sim.stores server)
 
--- the message at a place waits for a server that is up
-abbrev pub IsDue : {X : Type 0} → SimulationV X → ℕ → Type 0
-IsDue sim place = (server : ℕ) × (server < sim.setup.servers) × (is_up sim server ≡ true) × (set.contains sim.waiting (server, place) ≡ true)
+-- the message at a place waits for one of the first servers, which is up
+pub record IsDue {X : Type 0} (sim : SimulationV X) (servers place : ℕ) : Type 0 where
+  pub server : ℕ
+  pub among : server < servers
+  pub up : is_up sim server ≡ true
+  pub waits : set.contains sim.waiting (server, place) ≡ true
 
--- the first such message, where there is one
-abbrev pub IsFirstDue : {X : Type 0} → SimulationV X → Option ℕ → Type 0
-IsFirstDue sim None = (place : ℕ) → IsDue sim place → ⊥
-IsFirstDue sim (Some place) = IsDue sim place × ((other : ℕ) → IsDue sim other → place ≤ other)
+-- the first place that has the property, where there is one
+abbrev pub IsFirst : (ℕ → Type 0) → Option ℕ → Type 0
+IsFirst P None = (place : ℕ) → P place → ⊥
+IsFirst P (Some first) = P first × ((place : ℕ) → P place → first ≤ place)
+
+-- the earlier one of two places, where there are any
+abbrev pub earlier : Option ℕ → Option ℕ → Option ℕ
+earlier None b = b
+earlier (Some a) None = Some a
+earlier (Some a) (Some b) = Some (min a b)
 
 -- a change stands, and a lookup where its answer was taken
 abbrev pub kind_stands : set.FinSet nat_cmp → Kind → Bool

@@ -3,13 +3,18 @@
 #![tactic(auto)]
 
 mod clients;
+mod law;
 mod made;
 mod opening;
 mod servers;
 mod simulation;
 mod waiting;
 
+pub use law::laws_of_pasts;
 pub use made::{Kind, Made};
 pub use opening::NotOpened;
 pub use servers::{Restarted, Served};
 pub use simulation::Simulation;
+
+#[cfg(test)]
+mod tests;

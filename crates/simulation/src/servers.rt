@@ -1,6 +1,7 @@
 //! The events of a server.
 ghost use Rattle.std.specs.Prelude.{◌≡◌, ◌≢◌, ◌++◌, ◌∷◌, [], ℕ, ◌+◌, ◌<◌, ◌^◌, true, length, Ok, Some, None, IfOk, IfErr, OnOk, OnErr, IsErrOf};
 ghost use Rattle.mds_base.specs.declared.store_fault.StoreFault.TheVariants as StoreFault;
+ghost use Rattle.std.specs.FinSet as set;
 ghost use Rattle.std.specs.List.{slice_get};
 ghost use Rattle.mds_out.specs.Fault.{Rose};
 ghost use Rattle.mds_out.specs.Fused.{fused_faults};
@@ -14,7 +15,7 @@ ghost use Rattle.simulation.specs.Calls.{CanServe, CanMiss, Serves, Restarts, Ro
 ghost use Rattle.simulation.specs.Entries.{change_of, changes_of, looked, lookup_of, with_one, ended_by};
 ghost use Rattle.simulation.specs.Fuses.{seen_by, images_by};
 ghost use Rattle.simulation.specs.Runs.{RunV};
-ghost use Rattle.simulation.specs.Shows.{Happens, Shows, StaysNear, server_for};
+ghost use Rattle.simulation.specs.Shows.{Happens, Shows, StaysNear, server_for, waiting_cmp};
 ghost use Rattle.simulation.specs.Shows as shown;
 ghost use Rattle.simulation.specs.Stores.{IsRevived, IsDownStill};
 
@@ -25,6 +26,7 @@ use mds_out::{Disk, Fuse};
 use node_store::NodeStore;
 use records::{Handled, Msg, MsgList, Record, RecordList};
 use std::alloc::{AllocError, Global};
+use std::collections::BTreeSet;
 
 /// How a Serve ended.
 #[derive(Clone, Copy, Debug, PartialEq, Eq)]
@@ -67,13 +69,13 @@ impl<D: Disk> Simulation<D> {
         match self.stores[server as usize].serve_batch(alloc, msgs, self.moment, 0) {
             Ok(handled) => {
                 let served = hand_out(alloc, &mut self.sent, &mut self.made, place, handled)?;
-                let _ = self.waiting.remove(&(server, place));
+                no_longer_waits(&mut self.waiting, server, place);
                 self.count += 1;
                 Ok(served)
             }
             Err(fault) => match fault {
                 StoreFault::Device => {
-                    let _ = self.waiting.remove(&(server, place));
+                    no_longer_waits(&mut self.waiting, server, place);
                     self.count += 1;
                     Ok(Served::Stopped)
                 }
@@ -121,7 +123,10 @@ impl<D: Disk> Simulation<D> {
         ensures sent { self.new.sent ≡ self.old.sent }
         ensures setup { self.new.setup ≡ self.old.setup }
     {
-        match revive(alloc, &mut self.stores[server as usize], self.moment) {
+        let moment = self.moment;
+        let store = &mut self.stores[server as usize];
+        store.mend();
+        match revive(alloc, store, moment) {
             Ok(mut kept) => {
                 self.made.append(&mut kept)?;
                 self.count += 1;
@@ -138,12 +143,20 @@ impl<D: Disk> Simulation<D> {
     }
 }
 
-// Mends the fuse of a server's disk and restarts the server, and answers the entries of the records that were kept.
+// The message at a place was served.
+fn no_longer_waits(waiting: &mut BTreeSet<(u32, u64)>, server: u32, place: u64)
+    ensures { set.from_list {R = waiting_cmp} waiting.new.keys ≡ set.remove (set.from_list waiting.old.keys) (server, place) }
+{
+    let _ = waiting.remove(&(server, place));
+}
+
+// Restarts a server, the fuse of whose disk is not armed, and answers the entries of the records that were kept.
 fn revive<D: Disk>(
     alloc: Global,
     store: &mut NodeStore<Fuse<D>>,
     moment: u64,
 ) -> Result<Vec<Made>, StoreFault>
+    requires unarmed { store.old.disk.left ≡ None }
     requires down { store.old.up ≡ None }
     requires moment { moment < 2 ^ 43 }
     ensures ok { IfOk result (λ made. IsRevived (seen_by D.seen) (images_by D.images) store.old store.new moment made.items) }
@@ -152,7 +165,6 @@ fn revive<D: Disk>(
     ensures same { (store.new.server ≡ store.old.server) × (store.new.setup ≡ store.old.setup) }
     ensures rose { IsErrOf result StoreFault.Device → Rose (fused_faults D.faults store.old.disk) (fused_faults D.faults store.new.disk) }
 {
-    store.mend();
     let made = changes(alloc, store.doubt())?;
     match store.restart(alloc, moment) {
         Ok(kept) => {

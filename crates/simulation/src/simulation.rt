@@ -124,7 +124,7 @@ impl<D: Disk> Simulation<D> {
         ensures { result ≡ shown.has_numbers_at self.now server }
     {
         let next = self.stores[server as usize].next_id();
-        u128::from(next) + (1 << 18) <= (u128::from(server) + 1) << 40
+        next <= (u64::from(server) + 1) * (1 << 40) - (1 << 18)
     }
 
     /// The server of the message at a place, where one was sent that is for a server.

@@ -1,9 +1,9 @@
 //! The messages that no Serve named yet.
-ghost use Rattle.std.specs.Prelude.{◌≡◌, OnOk, OnErr, Some};
+ghost use Rattle.std.specs.Prelude.{◌≡◌, ◌<◌, true, OnOk, OnErr, Some};
 ghost use Rattle.std.specs.FinSet as set;
 ghost use Rattle.world.specs.Events.{is_for_client};
 ghost use Rattle.simulation.specs.Calls.{awaiting};
-ghost use Rattle.simulation.specs.Shows.{IsFirstDue, server_for, waiting_cmp};
+ghost use Rattle.simulation.specs.Shows.{IsDue, IsFirst, earlier, is_up, server_for, waiting_cmp};
 
 use crate::simulation::Simulation;
 use mds_out::Disk;
@@ -15,32 +15,50 @@ impl<D: Disk> Simulation<D> {
     /// The first place of a message that is for a server that is up and was named in no Serve before. It takes a time
     /// that grows with the number of servers, and with the logarithm of that of waiting messages.
     pub fn next_waiting(&self) -> Option<u64>
-        ensures { IsFirstDue self.now result }
+        ensures { IsFirst (IsDue self.now self.now.setup.servers) result }
     {
         let mut first = None;
         for server in 0..self.setup.servers {
-            if !self.stores[server as usize].is_down() {
-                first = earlier(first, first_for(&self.waiting, server));
-            }
+            first = earlier(first, self.due_at(server));
         }
         first
+    }
+
+    // The first place of a message that waits for a server, where the server is up.
+    fn due_at(&self, server: u32) -> Option<u64>
+        requires { server < self.now.setup.servers }
+        ensures { IsFirst (λ place. (is_up self.now server ≡ true) × (set.contains self.now.waiting (server, place) ≡ true)) result }
+    {
+        if !self.is_up(server) {
+            return None;
+        }
+        first_for(&self.waiting, server)
     }
 }
 
 // The first place of a message that waits for a server.
-fn first_for(waiting: &BTreeSet<(u32, u64)>, server: u32) -> Option<u64> {
+fn first_for(waiting: &BTreeSet<(u32, u64)>, server: u32) -> Option<u64>
+    ensures { IsFirst (λ place. set.contains (set.from_list {R = waiting_cmp} waiting.now.keys) (server, place) ≡ true) result }
+{
     match waiting.range(&(server, 0)..).next() {
-        Some((of, place)) if *of == server => Some(*place),
-        _ => None,
+        None => None,
+        Some((of, place)) => {
+            if *of != server {
+                return None;
+            }
+            Some(*place)
+        }
     }
 }
 
 // The earlier one of two places, where there are any.
-fn earlier(a: Option<u64>, b: Option<u64>) -> Option<u64> {
+fn earlier(a: Option<u64>, b: Option<u64>) -> Option<u64>
+    ensures { result ≡ earlier a b }
+{
     match (a, b) {
-        (Some(a), Some(b)) => Some(a.min(b)),
         (None, b) => b,
-        (a, None) => a,
+        (Some(a), None) => Some(a),
+        (Some(a), Some(b)) => Some(a.min(b)),
     }
 }
 

@@ -181,7 +181,7 @@ take_keeps t inv k place None o at is can is_for = cc
 take_keeps t inv k place (Some msg) None at is can is_for = cc
 take_keeps t inv k place (Some msg) (Some seat) at is can is_for = take_seat t inv k seat is seat.client.pending refl place msg at is_for
 
-all_true : {X : Type 0} (p : X → Bool) (xs : List X) → list_all p xs ≡ true → (k : ℕ) (x : X) → slice_get xs k ≡ Some x → p x ≡ true
+pub all_true : {X : Type 0} (p : X → Bool) (xs : List X) → list_all p xs ≡ true → (k : ℕ) (x : X) → slice_get xs k ≡ Some x → p x ≡ true
 all_true p [] e k x at = cc
 all_true p (z ∷ xs) e zero x at = let s : z ≡ x = cc in subst (λ y. p y ≡ true) s (and_parts (p z) (list_all p xs) e).0
 all_true p (z ∷ xs) e (suc k) x at = all_true p xs (and_parts (p z) (list_all p xs) e).1 k x at
@@ -241,7 +241,7 @@ serve_msg t inv s state is up numbers place how (Some (Busy client seq attempt p
 serve_msg t inv s state is up numbers place how (Some (Held client seq attempt until)) at is_for = cc
 serve_msg t inv s state is up numbers place how None at is_for = cc
 
-two_places : (n : ℕ) → (suc (suc n) == 1) ≡ true → ⊥
+pub two_places : (n : ℕ) → (suc (suc n) == 1) ≡ true → ⊥
 two_places n e = let s : suc (suc n) ≡ 1 = same_number (suc (suc n)) 1 e in absurd (omega arith)
 
 serve_keeps : (t : Trace) → Inv t → (s : ℕ) (places : List ℕ) (how : ServeEnd) (o : Option ServerState) → slice_get t.world.servers s ≡ o → can_serve o ≡ true

@@ -21,3 +21,7 @@ pub mod Happens
 pub mod Starts
 pub mod Ends
 pub mod Theorem
+pub mod Known
+pub mod Within
+pub mod Stepped
+pub mod Runs

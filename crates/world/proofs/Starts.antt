@@ -43,7 +43,7 @@ pub record IsStart (setup : Setup) (servers : List ServerState) (entries : Entri
 
 -- Lists
 
-ranged : {X : Type 0} (f : ℕ → X) (a n k : ℕ) (x : X) → slice_get (list_map f (range_with_len a n)) k ≡ Some x → f (a + k) ≡ x
+pub ranged : {X : Type 0} (f : ℕ → X) (a n k : ℕ) (x : X) → slice_get (list_map f (range_with_len a n)) k ≡ Some x → f (a + k) ≡ x
 ranged f a zero k x e = cc
 ranged f a (suc n) zero x e = let s : f a ≡ x = cc in let z : a + 0 ≡ a = omega arith in ap f z ∙ s
 ranged f a (suc n) (suc k) x e = let z : a + suc k ≡ (a + 1) + k = omega arith in ap f z ∙ ranged f (a + 1) n k x e

@@ -115,14 +115,22 @@ abbrev pub can_stop : Option ServerState → StopCause → Bool
 can_stop server Asked = is_up server
 can_stop server Device = is_there server
 
+-- the places are those of one message, which is for the server
+abbrev pub serves_at : List Msg → ℕ → List ℕ → Bool
+serves_at sent server places = (length places == 1) && list_all (λ k. is_for_server server (slice_get sent k)) places
+
+-- each partition of a bitmap of a directory is known to some client
+abbrev pub are_known : List ClientState → ℕ → Bits → Bool
+are_known clients dir bits = list_all (is_known clients dir) (set.items bits)
+
 abbrev pub enabled : WorldV → Event → Bool
 enabled w (Issue client call) = can_issue (seat_at w.clients client) call
 enabled w (Resend client) = can_resend (seat_at w.clients client)
-enabled w (Serve server places how) = can_serve (slice_get w.servers server) && ((length places == 1) && list_all (λ k. is_for_server server (slice_get w.sent k)) places)
+enabled w (Serve server places how) = can_serve (slice_get w.servers server) && serves_at w.sent server places
 enabled w (Miss place) = misses w.servers (slice_get w.sent place)
 enabled w (Take client place) = can_take (seat_at w.clients client) && is_for_client client (slice_get w.sent place)
 enabled w (Cached client call) = false
-enabled w (Hint client dir bits) = can_take (seat_at w.clients client) && list_all (is_known w.clients dir) (set.items bits)
+enabled w (Hint client dir bits) = can_take (seat_at w.clients client) && are_known w.clients dir bits
 enabled w (Remind server) = is_up (slice_get w.servers server)
 enabled w (Stop server cause) = can_stop (slice_get w.servers server) cause
 enabled w (Restart server kept) = can_restart (slice_get w.servers server) kept

@@ -1,5 +1,7 @@
 pub mod Lists
 pub mod Worlds
+pub mod Ranges
 pub mod Events
 pub mod Histories
 pub mod Law
+pub mod Runs

@@ -1,4 +1,4 @@
-use Rattle.std.proofs.Common.{◌≡◌, ◌∙◌, sym, ap, subst, refl, ◌∷◌, [], ◌+◌, true}
+use Rattle.std.proofs.Common.{◌≡◌, ◌∙◌, sym, ap, ◌∷◌, [], ◌+◌, true}
 use Rattle.std.specs.FinMap as map
 use Rattle.node_core.specs.Nodes.{NodeV, StoreV, row_in, owns}
 use Rattle.node_core.specs.Rules.{found}

@@ -5,7 +5,6 @@ use Rattle.simulation.specs.Fuses.{seen_by, images_by}
 use Rattle.simulation.specs.Shows.{SimulationV}
 use Rattle.simulation.proofs.Changing.{on_err, ranged_store, ranged_unsent, ranged_more, sent_served}
 use Rattle.simulation.proofs.Handing.{serving, serves_within, serves_place, one_message, served_store, went_down, serve_done, serve_unsent, serve_stopped, serve_refused, serves_done, serves_stopped, others_for, rose_for}
-use Rattle.simulation.proofs.Sets.{waiting_total, exact_waiting, one_out}
 use Rattle.simulation.proofs.simulation.Simulation.serve.Goals as goal
 
 pub serve_batch-requires-clause-up : goal.serve_batch-requires-clause-up
@@ -57,7 +56,7 @@ returns-in_ok-served-in-Ok-clause-ok g c =
     serves_done (seen_by g.D.Disk.seen) (images_by g.D.Disk.images) _ _ _ c.in-Some.server c.args.place c.index_mut.result.now c.in-Ok.handled.outputs c.in_ok-served-in-Ok.served c.self.view_is s
       (serve_done (seen_by g.D.Disk.seen) (images_by g.D.Disk.images) _ _ c.args.place c.in-Some.server c.index_mut.result.now c.serve_batch.new.self c.self.view_is s c.in-Ok.handled.records c.in-Ok.handled.outputs c.hand_out.new.sent _ c.hand_out.new.made.items
         (served_store (seen_by g.D.Disk.seen) c.index_mut.result.now c.serve_batch.new.self s.up s.msg _ c.in-Ok.handled c.serve_batch.ensures.told c.serve_batch.ensures.same did) did.records did.outputs
-        c.in_ok-served-in-Ok.ensures.sent (one_out waiting_total exact_waiting c.self.inside.waiting.keys c.remove.new.self.keys (c.in-Some.server, c.args.place) c.remove.ensures.updates.0) c.in_ok-served-in-Ok.ensures.made)
+        c.in_ok-served-in-Ok.ensures.sent c.no_longer_waits.ensures c.in_ok-served-in-Ok.ensures.made)
       did.outputs c.in_ok-served-in-Ok.ensures.sent c.in_ok-served-in-Ok.ensures.served
 
 pub returns-in_ok-served-in-Ok-clause-others : goal.returns-in_ok-served-in-Ok-clause-others
@@ -79,7 +78,7 @@ returns-in-Device-clause-ok g c =
     serves_stopped _ _ c.in-Some.server c.args.place c.index_mut.result.now c.self.view_is s (seen_by g.D.Disk.seen) (images_by g.D.Disk.images) _
       (serve_stopped (seen_by g.D.Disk.seen) (images_by g.D.Disk.images) _ _ c.args.place c.in-Some.server c.index_mut.result.now c.serve_batch.new.self c.self.view_is s _
         (went_down (seen_by g.D.Disk.seen) (images_by g.D.Disk.images) _ _ c.args.place c.in-Some.server c.index_mut.result.now c.serve_batch.new.self c.self.view_is s _ c.serve_batch.ensures.told c.serve_batch.ensures.same (c.in-Err.ensures.refused s.msg s.up one s.to.up') down)
-        (one_out waiting_total exact_waiting c.self.inside.waiting.keys c.remove-in-Device.new.self.keys (c.in-Some.server, c.args.place) c.remove-in-Device.ensures.updates.0))
+        c.no_longer_waits-in-Device.ensures)
       refl
 
 pub returns-in-Device-clause-rose : goal.returns-in-Device-clause-rose

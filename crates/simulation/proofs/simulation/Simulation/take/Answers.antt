@@ -5,6 +5,11 @@ use Rattle.simulation.specs.Shows.{SimulationV}
 use Rattle.simulation.proofs.Carried.{is_numbered, is_meant, few_calls, has_room_at, ranged_refused, ranged_taken, take_said, take_done}
 use Rattle.simulation.proofs.simulation.Simulation.take.Goals as goal
 
+pub take-requires : goal.take-requires
+take-requires g c =
+    let at = is_numbered _ _ c.args.client c.index_mut.result.now c.self.view_is c.requires.client c.self.invariant.0.clients' c.index_mut.ensures.value in
+    has_room_at _ _ _ _ _ _ c.self.invariant.0 _ _ at.place
+
 pub invariant_of-self : goal.invariant_of-self
 invariant_of-self g c =
     let at = is_numbered _ _ c.args.client c.index_mut.result.now c.self.view_is c.requires.client c.self.invariant.0.clients' c.index_mut.ensures.value in

@@ -1,0 +1,6 @@
+pub mod Splitting
+pub mod Numerals
+pub mod Unescaping
+pub mod Sentences
+pub mod Meanings
+pub mod Printing

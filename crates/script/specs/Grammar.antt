@@ -1,0 +1,115 @@
+-- The lines of a script: which bytes say which line. It knows no reader.
+use Rattle.std.specs.Prelude.{◌≡◌, ◌⊎◌, ℕ, ◌<◌, ◌≤◌, ◌^◌, List, [], ◌∷◌, codes, decimal, IsTrue, length, slice_index}
+use Rattle.std.specs.Str.Parse.{AllDigits, digits_value}
+use Rattle.mds_base.specs.declared.call.Call.{Call}
+use Rattle.mds_base.specs.declared.call.Call.TheVariants.{Create, Mkdir, Remove, Lookup, Setattr, Scan, Grab, Load, Link}
+use Rattle.mds_base.specs.declared.setup.Setup.{Setup}
+use Rattle.mds_base.specs.Name.{is_name}
+use Rattle.script.specs.Names.{SpellsName}
+use Rattle.script.specs.Words.{words_of}
+use Rattle.script.specs.declared.line.Line.{Line}
+use Rattle.script.specs.declared.line.Line.TheVariants as lines
+
+-- what a word says: it is a word of the grammar, a number or a name
+pub data Part : Type 0 where
+  Keyword : List ℕ → Part
+  Number : ℕ → Part
+  Named : List ℕ → Part
+
+-- the word says the part; a number has one spelling and is at most 2^64 - 1
+abbrev pub IsSpelled : List ℕ → Part → Type 0
+IsSpelled word (Keyword text) = word ≡ text
+IsSpelled word (Number number) = (word ≡ decimal number) × (number < 2 ^ 64)
+IsSpelled word (Named name) = SpellsName word name × IsTrue (is_name name)
+
+-- the words say the parts, each its own
+abbrev pub AreSpelled : List (List ℕ) → List Part → Type 0
+AreSpelled [] [] = Unit {0}
+AreSpelled [] (part ∷ parts) = ⊥
+AreSpelled (word ∷ words) [] = ⊥
+AreSpelled (word ∷ words) (part ∷ parts) = IsSpelled word part × AreSpelled words parts
+
+-- the parts of a call that a line may ask for
+abbrev pub call_parts : Call → List Part
+call_parts (Create dir name) = Keyword (codes "create") ∷ Number dir ∷ Named name ∷ []
+call_parts (Mkdir dir name) = Keyword (codes "mkdir") ∷ Number dir ∷ Named name ∷ []
+call_parts (Remove dir name) = Keyword (codes "remove") ∷ Number dir ∷ Named name ∷ []
+call_parts (Lookup dir name) = Keyword (codes "lookup") ∷ Number dir ∷ Named name ∷ []
+call_parts (Setattr dir name mode size) = Keyword (codes "setattr") ∷ Number dir ∷ Named name ∷ Number mode ∷ Number size ∷ []
+call_parts (Scan dir) = []
+call_parts (Grab dir name count) = []
+call_parts (Load dir rows) = []
+call_parts (Link dir name id) = []
+
+-- the parts of a line
+abbrev pub line_parts : Line → List Part
+line_parts lines.Skipped = []
+line_parts (lines.Call client call) = Keyword (codes "call") ∷ Number client ∷ call_parts call
+line_parts (lines.Issue client call) = Keyword (codes "issue") ∷ Number client ∷ call_parts call
+line_parts (lines.Retry client) = Keyword (codes "retry") ∷ Number client ∷ []
+line_parts (lines.Deliver place) = Keyword (codes "deliver") ∷ Number place ∷ []
+line_parts (lines.Take client place) = Keyword (codes "take") ∷ Number client ∷ Number place ∷ []
+line_parts lines.Settle = Keyword (codes "settle") ∷ []
+line_parts (lines.Tick by) = Keyword (codes "tick") ∷ Number by ∷ []
+line_parts (lines.Fuse server calls) = Keyword (codes "fuse") ∷ Number server ∷ Number calls ∷ []
+line_parts (lines.Stop server) = Keyword (codes "stop") ∷ Number server ∷ []
+line_parts (lines.Restart server) = Keyword (codes "restart") ∷ Number server ∷ []
+
+-- a word that is a number, digit by digit; its value is `digits_value 10 word`
+pub record IsNumeral (word : List ℕ) : Type 0 where
+  pub digits : AllDigits 10 word
+  pub some : 1 ≤ length word
+  pub few : length word ≤ 20
+  pub plain : slice_index word 0 ≡ 48 → length word ≡ 1
+  pub fits : digits_value 10 word < 2 ^ 64
+
+-- ---- ranges
+
+-- a directory number
+abbrev pub IsDirectory : ℕ → Type 0
+IsDirectory dir = (1 ≤ dir) × (dir < 2 ^ 48)
+
+-- a client of this setup
+abbrev pub IsClient : Setup → ℕ → Type 0
+IsClient setup client = (1 ≤ client) × (client ≤ setup.clients)
+
+-- a server of this setup
+abbrev pub IsServer : Setup → ℕ → Type 0
+IsServer setup server = server < setup.servers
+
+-- a call that a line may ask for
+abbrev pub IsAsked : Call → Type 0
+IsAsked (Create dir name) = IsDirectory dir
+IsAsked (Mkdir dir name) = IsDirectory dir
+IsAsked (Remove dir name) = IsDirectory dir
+IsAsked (Lookup dir name) = IsDirectory dir
+IsAsked (Setattr dir name mode size) = IsDirectory dir × (mode ≤ 4095)
+IsAsked (Scan dir) = ⊥
+IsAsked (Grab dir name count) = ⊥
+IsAsked (Load dir rows) = ⊥
+IsAsked (Link dir name id) = ⊥
+
+-- the numbers of the line are in their ranges
+abbrev pub IsWithin : Setup → Line → Type 0
+IsWithin setup lines.Skipped = Unit {0}
+IsWithin setup (lines.Call client call) = IsClient setup client × IsAsked call
+IsWithin setup (lines.Issue client call) = IsClient setup client × IsAsked call
+IsWithin setup (lines.Retry client) = IsClient setup client
+IsWithin setup (lines.Deliver place) = Unit {0}
+IsWithin setup (lines.Take client place) = IsClient setup client
+IsWithin setup lines.Settle = Unit {0}
+IsWithin setup (lines.Tick by) = (1 ≤ by) × (by ≤ 2 ^ 32)
+IsWithin setup (lines.Fuse server calls) = IsServer setup server × (calls ≤ 2 ^ 32)
+IsWithin setup (lines.Stop server) = IsServer setup server
+IsWithin setup (lines.Restart server) = IsServer setup server
+
+-- ---- lines
+
+-- the first byte is a `#`
+abbrev pub IsComment : List ℕ → Type 0
+IsComment [] = ⊥
+IsComment (byte ∷ bytes) = byte ≡ 35
+
+-- the bytes are a line that says this: a comment is skipped, and else each word says its part
+abbrev pub IsLine : Setup → List ℕ → Line → Type 0
+IsLine setup bytes line = (IsComment bytes × (line ≡ lines.Skipped)) ⊎ (AreSpelled (words_of bytes) (line_parts line) × IsWithin setup line)

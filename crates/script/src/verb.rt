@@ -1,0 +1,98 @@
+//! The words that a line or a call may begin with.
+ghost use Rattle.std.specs.Prelude.{◌≡◌};
+ghost use Rattle.script.specs.Reading.{verb_text, call_verb_text, verb_of, call_verb_of};
+
+/// What a line asks for.
+#[derive(Clone, Copy, Debug, PartialEq, Eq)]
+pub(crate) enum Verb {
+    Call,
+    Issue,
+    Retry,
+    Deliver,
+    Take,
+    Settle,
+    Tick,
+    Fuse,
+    Stop,
+    Restart,
+}
+
+const VERBS: [Verb; 10] = [
+    Verb::Call,
+    Verb::Issue,
+    Verb::Retry,
+    Verb::Deliver,
+    Verb::Take,
+    Verb::Settle,
+    Verb::Tick,
+    Verb::Fuse,
+    Verb::Stop,
+    Verb::Restart,
+];
+
+impl Verb {
+    fn text(self) -> &'static [u8]
+        ensures { result.now ≡ verb_text self }
+    {
+        match self {
+            Verb::Call => b"call",
+            Verb::Issue => b"issue",
+            Verb::Retry => b"retry",
+            Verb::Deliver => b"deliver",
+            Verb::Take => b"take",
+            Verb::Settle => b"settle",
+            Verb::Tick => b"tick",
+            Verb::Fuse => b"fuse",
+            Verb::Stop => b"stop",
+            Verb::Restart => b"restart",
+        }
+    }
+}
+
+/// The verb that a word is.
+#[tactic(auto, unfolding(crate::specs::Reading::verb_of))]
+pub(crate) fn verb_of(word: &[u8]) -> Option<Verb>
+    ensures { result ≡ verb_of word.now }
+{
+    VERBS.iter().copied().find(|verb| verb.text() == word)
+}
+
+/// What a call asks for.
+#[derive(Clone, Copy, Debug, PartialEq, Eq)]
+pub(crate) enum CallVerb {
+    Create,
+    Mkdir,
+    Remove,
+    Lookup,
+    Setattr,
+}
+
+const CALL_VERBS: [CallVerb; 5] = [
+    CallVerb::Create,
+    CallVerb::Mkdir,
+    CallVerb::Remove,
+    CallVerb::Lookup,
+    CallVerb::Setattr,
+];
+
+impl CallVerb {
+    fn text(self) -> &'static [u8]
+        ensures { result.now ≡ call_verb_text self }
+    {
+        match self {
+            CallVerb::Create => b"create",
+            CallVerb::Mkdir => b"mkdir",
+            CallVerb::Remove => b"remove",
+            CallVerb::Lookup => b"lookup",
+            CallVerb::Setattr => b"setattr",
+        }
+    }
+}
+
+/// The call's verb that a word is.
+#[tactic(auto, unfolding(crate::specs::Reading::call_verb_of))]
+pub(crate) fn call_verb_of(word: &[u8]) -> Option<CallVerb>
+    ensures { result ≡ call_verb_of word.now }
+{
+    CALL_VERBS.iter().copied().find(|verb| verb.text() == word)
+}

@@ -1,0 +1,239 @@
+-- Events keep the ranges of a world's numbers.
+use Rattle.std.proofs.Common.{◌≡◌, ◌∙◌, sym, ap, subst, refl, ℕ, suc, ◌+◌, ◌-◌, ◌^◌, ◌<◌, ◌&&◌, not, Bool, true, false, List, [], ◌∷◌, ◌++◌, get_or, Option, Some, None, arith, append_assoc}
+use Rattle.std.specs.Prelude.{slice_set}
+use Rattle.std.specs.Prelude.{map as list_map}
+use Rattle.std.specs.List.{slice_get, range_with_len}
+use Rattle.std.proofs.lemmas.Bool.{and_parts}
+use Rattle.std.proofs.lemmas.Bool.Decides.{nat_tests}
+use Rattle.std.proofs.lemmas.List.{append-nil}
+use Rattle.std.proofs.lemmas.List.FromFn.{map-range_with_len_more}
+use Rattle.mds_base.specs.declared.setup.Setup.{Setup}
+use Rattle.mds_base.specs.declared.ask.Ask.{Ask}
+use Rattle.mds_base.specs.declared.call.Call.{Call}
+use Rattle.mds_base.specs.declared.call.Call.TheVariants.{Create, Mkdir, Remove, Lookup, Setattr, Scan, Grab, Load, Link}
+use Rattle.records.specs.declared.msg.Msg.{Msg}
+use Rattle.records.specs.declared.msg.Msg.TheVariants.{Request, Redirect, Answer, Busy, Held, Transfer, Installed}
+use Rattle.node_core.specs.Nodes.{StoreV}
+use Rattle.node_core.specs.Rules.{Outcome, Silent, Looks, Repeats, Carries, outcome}
+use Rattle.node_core.specs.Serving.{serve, served_as}
+use Rattle.node_core.specs.Ranges as node
+use Rattle.node_core.specs.Ranges.{DirFits, RecordFits}
+use Rattle.client_core.specs.declared.client.Pending.{Pending}
+use Rattle.client_core.specs.Clients.{ClientV, dir_of, issued, issue_msg, SendsAgain}
+use Rattle.client_core.specs.Taking.{take, take_at, answered_if, busy_if, held_if, redirected_if}
+use Rattle.client_core.specs.Taking as taking
+use Rattle.world.specs.declared.state.ServerState.{ServerState}
+use Rattle.world.specs.declared.state.ClientState.{ClientState}
+use Rattle.world.specs.Lists.{Each}
+use Rattle.world.specs.Ranges.{IsSetup, AreRanges, PendingFits}
+use Rattle.world.specs.Worlds.{WorldV, store_of, new_server, new_seat}
+use Rattle.world.specs.Events.{is_dir, is_call, is_open, seat_at, is_for_server, can_issue, can_resend, can_take, can_serve}
+use Rattle.world.proofs.Grow.{each_push, each_set}
+use Rattle.world.proofs.Starts.{ranged}
+use Rattle.world.proofs.Stepped.{item_is, seat_place}
+
+-- Directories
+
+dir_fits : (dir : ℕ) → is_dir dir ≡ true → dir < 2 ^ 48
+dir_fits dir e = grind (arith, nat_tests)
+
+pub call_fits : (call : Call) → is_call call ≡ true → dir_of call < 2 ^ 48
+call_fits (Create dir name) e = dir_fits dir e
+call_fits (Mkdir dir name) e = dir_fits dir e
+call_fits (Remove dir name) e = dir_fits dir e
+call_fits (Lookup dir name) e = dir_fits dir e
+call_fits (Setattr dir name mode size) e = dir_fits dir (and_parts (is_dir dir) _ e).0
+call_fits (Scan dir) e = cc
+call_fits (Grab dir name count) e = cc
+call_fits (Load dir rows) e = cc
+call_fits (Link dir name id) e = cc
+
+-- the directory of a call, as servers read it
+pub same_dir : (call : Call) → dir_of call ≡ node.dir_of call
+same_dir (Create dir name) = refl
+same_dir (Mkdir dir name) = refl
+same_dir (Remove dir name) = refl
+same_dir (Lookup dir name) = refl
+same_dir (Setattr dir name mode size) = refl
+same_dir (Scan dir) = refl
+same_dir (Grab dir name count) = refl
+same_dir (Load dir rows) = refl
+same_dir (Link dir name id) = refl
+
+request_fits : (call : Call) → dir_of call < 2 ^ 48 → node.dir_of call < 2 ^ 48
+request_fits call fits = subst (λ dir. dir < 2 ^ 48) (same_dir call) fits
+
+-- Lists
+
+pub each_none : {X : Type 0} {P : ℕ → X → Type 0} → Each [] P
+each_none = record { at = λ k x e. cc }
+
+pub each_append : {X : Type 0} (P : X → Type 0) (ys xs : List X) → Each xs (λ k x. P x) → Each ys (λ k y. P y) → Each (xs ++ ys) (λ k x. P x)
+each_append P [] xs all more = subst (λ zs. Each zs (λ k x. P x)) (sym (append-nil xs)) all
+each_append P (y ∷ ys) xs all more =
+    let one : Each (xs ++ y ∷ []) (λ k x. P x) = each_push y all (more.at 0 y refl) in
+    subst (λ zs. Each zs (λ k x. P x)) (append_assoc xs (y ∷ []) ys) (each_append P ys (xs ++ y ∷ []) one (record { at = λ k x e. more.at (suc k) x e }))
+
+-- What serving gives
+
+served_outputs : (store : StoreV) (ask : Ask) (o : Outcome) → Each (served_as store ask o).outputs (λ k m. DirFits m)
+served_outputs store ask Silent = each_none
+served_outputs store ask (Looks reply) = each_push _ each_none tt
+served_outputs store ask (Repeats said) = each_push _ each_none tt
+served_outputs store ask (Carries said) = each_push _ each_none tt
+
+pub outputs_fit : (store : StoreV) (msg : Msg) (now : ℕ) → Each (serve store msg now).outputs (λ k m. DirFits m)
+outputs_fit store (Request server ask cursor) now = served_outputs store ask (outcome store ask now)
+outputs_fit store (Redirect client seq attempt dir bits) now = each_none
+outputs_fit store (Answer client seq attempt reply) now = each_none
+outputs_fit store (Busy client seq attempt part depth) now = each_none
+outputs_fit store (Held client seq attempt until) now = each_none
+outputs_fit store (Transfer server dir part depth bits sessions top rows) now = each_none
+outputs_fit store (Installed server dir part child) now = each_none
+
+served_records : (store : StoreV) (ask : Ask) (o : Outcome) → node.dir_of ask.call < 2 ^ 48 → Each (served_as store ask o).records (λ k item. RecordFits item)
+served_records store ask Silent fits = each_none
+served_records store ask (Looks reply) fits = each_none
+served_records store ask (Repeats said) fits = each_none
+served_records store ask (Carries said) fits = each_push _ each_none fits
+
+pub records_fit : (store : StoreV) (msg : Msg) (now : ℕ) → DirFits msg → Each (serve store msg now).records (λ k item. RecordFits item)
+records_fit store (Request server ask cursor) now fits = served_records store ask (outcome store ask now) fits
+records_fit store (Redirect client seq attempt dir bits) now fits = each_none
+records_fit store (Answer client seq attempt reply) now fits = each_none
+records_fit store (Busy client seq attempt part depth) now fits = each_none
+records_fit store (Held client seq attempt until) now fits = each_none
+records_fit store (Transfer server dir part depth bits sessions top rows) now fits = each_none
+records_fit store (Installed server dir part child) now fits = each_none
+
+-- What taking leaves
+
+answered_fits : (client : ClientV) (reply : _) (b : Bool) → PendingFits client.pending → PendingFits (answered_if client reply b).client.pending
+answered_fits client reply true fits = tt
+answered_fits client reply false fits = fits
+
+busy_fits : (client : ClientV) (part : ℕ) (b : Bool) → PendingFits client.pending → PendingFits (busy_if client part b).client.pending
+busy_fits client part true fits = fits
+busy_fits client part false fits = fits
+
+held_fits : (client : ClientV) (until : ℕ) (b : Bool) → PendingFits client.pending → PendingFits (held_if client until b).client.pending
+held_fits client until true fits = fits
+held_fits client until false fits = fits
+
+redirected_fits : (client : ClientV) (pending : Pending) (dir : ℕ) (bits : _) (b : Bool) → PendingFits client.pending → PendingFits (Some pending) → PendingFits (redirected_if client pending dir bits b).client.pending
+redirected_fits client pending dir bits true all fits = fits
+redirected_fits client pending dir bits false all fits = all
+
+take_pending_fits : (client : ClientV) (pending : Pending) (msg : Msg) → PendingFits client.pending → PendingFits (Some pending) → PendingFits (taking.take_pending client pending msg).client.pending
+take_pending_fits client pending (Answer to seq attempt reply) all fits = answered_fits client reply _ all
+take_pending_fits client pending (Redirect to seq attempt dir bits) all fits = redirected_fits client pending dir bits _ all fits
+take_pending_fits client pending (Busy to seq attempt part depth) all fits = busy_fits client part _ all
+take_pending_fits client pending (Held to seq attempt until) all fits = held_fits client until _ all
+take_pending_fits client pending (Request to ask cursor) all fits = all
+take_pending_fits client pending (Transfer to dir part depth bits sessions top rows) all fits = all
+take_pending_fits client pending (Installed to dir part child) all fits = all
+
+take_fits_at : (client : ClientV) (p : Option Pending) (msg : Msg) → PendingFits client.pending → PendingFits p → PendingFits (take_at client p msg).client.pending
+take_fits_at client None msg all fits = all
+take_fits_at client (Some pending) msg all fits = take_pending_fits client pending msg all fits
+
+pub take_fits : (client : ClientV) (msg : Msg) → PendingFits client.pending → PendingFits (take client msg).client.pending
+take_fits client msg fits = take_fits_at client client.pending msg fits fits
+
+-- The ranges of a new world
+
+-- one element more of a list by numbers
+pub one_more : {X : Type 0} (f : ℕ → X) (a n j : ℕ) → a + n ≡ j → (xs : List X) → xs ≡ list_map f (range_with_len a n) → (x : X) → x ≡ f j → (ys : List X) → ys ≡ xs ++ x ∷ [] → ys ≡ list_map f (range_with_len a (n + 1))
+one_more f a n j sum xs xs_are x x_is ys ys_are = let more = map-range_with_len_more f a n j sum in cc
+
+pub new_ranges : (setup : Setup) → IsSetup setup → (servers : List ServerState) (clients : List ClientState) → servers ≡ list_map (new_server setup) (range_with_len 0 setup.servers) → clients ≡ list_map (new_seat setup) (range_with_len 1 setup.clients)
+    → AreRanges setup 0 servers clients []
+new_ranges setup is servers clients servers_are clients_are = record {
+  setup' = is;
+  moment = omega arith;
+  doubts = record {
+    at = λ k state at.
+        subst (λ (x : ServerState). Each x.doubt (λ j item. RecordFits item)) (ranged (new_server setup) 0 setup.servers k state (ap (λ xs. slice_get xs k) (sym servers_are) ∙ at)) each_none;
+  };
+  calls = record {
+    at = λ k seat at.
+        subst (λ (x : ClientState). PendingFits x.client.pending) (ranged (new_seat setup) 1 setup.clients k seat (ap (λ xs. slice_get xs k) (sym clients_are) ∙ at)) tt;
+  };
+  requests = each_none;
+}
+
+-- The ranges of a world of which one part was changed
+
+module _ {setup : Setup} {now : ℕ} {servers : List ServerState} {clients : List ClientState} {sent : List Msg} (ranges : AreRanges setup now servers clients sent) where
+  pub with_seat : (k : ℕ) (seat : ClientState) → PendingFits seat.client.pending → AreRanges setup now servers (slice_set clients k seat) sent
+  with_seat k seat fits = record { setup' = ranges.setup'; moment = ranges.moment; doubts = ranges.doubts; calls = each_set k seat ranges.calls fits; requests = ranges.requests }
+
+  pub with_msg : (msg : Msg) → DirFits msg → AreRanges setup now servers clients (sent ++ msg ∷ [])
+  with_msg msg fits = record { setup' = ranges.setup'; moment = ranges.moment; doubts = ranges.doubts; calls = ranges.calls; requests = each_push msg ranges.requests fits }
+
+  pub with_msgs : (msgs : List Msg) → Each msgs (λ k m. DirFits m) → AreRanges setup now servers clients (sent ++ msgs)
+  with_msgs msgs fit = record { setup' = ranges.setup'; moment = ranges.moment; doubts = ranges.doubts; calls = ranges.calls; requests = each_append DirFits msgs sent ranges.requests fit }
+
+  pub with_server : (s : ℕ) (state : ServerState) → Each state.doubt (λ k item. RecordFits item) → AreRanges setup now (slice_set servers s state) clients sent
+  with_server s state fit = record { setup' = ranges.setup'; moment = ranges.moment; doubts = each_set s state ranges.doubts fit; calls = ranges.calls; requests = ranges.requests }
+
+  pub with_moment : (later : ℕ) → later < 2 ^ 43 → AreRanges setup later servers clients sent
+  with_moment later fits = record { setup' = ranges.setup'; moment = fits; doubts = ranges.doubts; calls = ranges.calls; requests = ranges.requests }
+
+-- What code reads is within its range, and so is what it writes
+
+issue_fits : (o : Option ClientState) (call : Call) → can_issue o call ≡ true → dir_of call < 2 ^ 48
+issue_fits None call can = cc
+issue_fits (Some seat) call can = call_fits call (and_parts _ (is_call call) (and_parts (not seat.quit && not (is_open seat.client.pending)) _ can).1).1
+
+sends_fit : (client new : ClientV) (msg : Msg) (p : Option Pending) → SendsAgain client new msg p → PendingFits p → PendingFits new.pending × DirFits msg
+sends_fit client new msg None sends fits = absurd sends
+sends_fit client new msg (Some pending) sends fits = (subst (λ (x : ClientV). PendingFits x.pending) (sym sends.1) fits, subst DirFits (sym sends.0) (request_fits pending.call fits))
+
+module _ (i w : WorldV) (same : i ≡ w) (ranges : AreRanges i.setup i.now i.servers i.clients i.sent) where
+  module _ (client : ℕ) (seat : ClientState) (read : seat ≡ get_or i.clients (client - 1) seat) where
+    seat_fits : (f : Option ClientState → Bool) → f None ≡ false → f (seat_at w.clients client) ≡ true → PendingFits seat.client.pending
+    seat_fits f none can =
+        ranges.calls.at (client - 1) seat (seat_place f none i.clients client (subst (λ (x : WorldV). f (seat_at x.clients client) ≡ true) (sym same) can) seat read)
+
+    pub issued_fits : (call call' : Call) → can_issue (seat_at w.clients client) call ≡ true → call' ≡ call → (new : ClientV) → new ≡ issued seat.client call' → PendingFits new.pending
+    issued_fits call call' can call_is new new_is =
+        subst (λ (x : ClientV). PendingFits x.pending) (sym new_is) (subst (λ x. dir_of x < 2 ^ 48) (sym call_is) (issue_fits (seat_at w.clients client) call can))
+
+    pub issued_ranges : (call call' : Call) → can_issue (seat_at w.clients client) call ≡ true → call' ≡ call → (new : ClientV) → new ≡ issued seat.client call' → (msg : Msg) → msg ≡ issue_msg seat.client call' → (sent : List Msg) → sent ≡ i.sent ++ msg ∷ []
+        → AreRanges i.setup i.now i.servers (slice_set i.clients (client - 1) (record { client = new; quit = seat.quit })) sent
+    issued_ranges call call' can call_is new new_is msg msg_is sent sent_is =
+        let fits : dir_of call' < 2 ^ 48 = subst (λ x. dir_of x < 2 ^ 48) (sym call_is) (issue_fits (seat_at w.clients client) call can) in
+        subst (λ xs. AreRanges i.setup i.now i.servers (slice_set i.clients (client - 1) (record { client = new; quit = seat.quit })) xs) (sym sent_is)
+        (with_msg (with_seat ranges (client - 1) (record { client = new; quit = seat.quit }) (issued_fits call call' can call_is new new_is)) msg
+        (subst DirFits (sym msg_is) (request_fits call' fits)))
+
+    pub resent_fits : can_resend (seat_at w.clients client) ≡ true → (new : ClientV) (msg : Msg) → SendsAgain seat.client new msg seat.client.pending → PendingFits new.pending
+    resent_fits can new msg sends = (sends_fit seat.client new msg seat.client.pending sends (seat_fits can_resend refl can)).0
+
+    pub resent_ranges : can_resend (seat_at w.clients client) ≡ true → (new : ClientV) (msg : Msg) → SendsAgain seat.client new msg seat.client.pending → (sent : List Msg) → sent ≡ i.sent ++ msg ∷ []
+        → AreRanges i.setup i.now i.servers (slice_set i.clients (client - 1) (record { client = new; quit = seat.quit })) sent
+    resent_ranges can new msg sends sent sent_is =
+        let fits = sends_fit seat.client new msg seat.client.pending sends (seat_fits can_resend refl can) in
+        subst (λ xs. AreRanges i.setup i.now i.servers (slice_set i.clients (client - 1) (record { client = new; quit = seat.quit })) xs) (sym sent_is)
+        (with_msg (with_seat ranges (client - 1) (record { client = new; quit = seat.quit }) fits.0) msg fits.1)
+
+    pub taken_fits : can_take (seat_at w.clients client) ≡ true → (msg : Msg) (new : ClientV) → new ≡ (take seat.client msg).client → PendingFits new.pending
+    taken_fits can msg new new_is = subst (λ (x : ClientV). PendingFits x.pending) (sym new_is) (take_fits seat.client msg (seat_fits can_take refl can))
+
+  module _ (server : ℕ) (state : ServerState) (read : state ≡ get_or i.servers server state) (can : can_serve (slice_get w.servers server) ≡ true) where
+    state_fits : Each state.doubt (λ k item. RecordFits item)
+    state_fits = ranges.doubts.at server state (item_is can_serve refl i.servers server (subst (λ (x : WorldV). can_serve (slice_get x.servers server) ≡ true) (sym same) can) state read)
+
+    pub done_ranges : (new : ServerState) → new.doubt ≡ state.doubt → (msg : Msg) (outputs all : List Msg) → outputs ≡ (serve (store_of state) msg i.now).outputs → all ≡ i.sent ++ outputs
+        → AreRanges i.setup i.now (slice_set i.servers server new) i.clients all
+    done_ranges new doubt msg outputs all outputs_are all_is =
+        subst (λ xs. AreRanges i.setup i.now (slice_set i.servers server new) i.clients xs) (sym (all_is ∙ ap (λ o. i.sent ++ o) outputs_are))
+        (with_msgs (with_server ranges server new (subst (λ d. Each d (λ k item. RecordFits item)) (sym doubt) state_fits)) (serve (store_of state) msg i.now).outputs (outputs_fit (store_of state) msg i.now))
+
+    pub stopped_ranges : (place : ℕ) (msg : Msg) (sent : List Msg) → is_for_server server (slice_get w.sent place) ≡ true → sent ≡ w.sent → msg ≡ get_or sent place msg
+        → (new : ServerState) → new ≡ record { node = state.node; rows = state.rows; up = false; doubt = (serve (store_of state) msg i.now).records } → AreRanges i.setup i.now (slice_set i.servers server new) i.clients i.sent
+    stopped_ranges place msg sent is_for sent_is msg_read new new_is =
+        let at : slice_get w.sent place ≡ Some msg = item_is (is_for_server server) refl w.sent place is_for msg (msg_read ∙ ap (λ xs. get_or xs place msg) sent_is) in
+        let fits : DirFits msg = ranges.requests.at place msg (ap (λ (x : WorldV). slice_get x.sent place) same ∙ at) in
+        with_server ranges server new (subst (λ (x : ServerState). Each x.doubt (λ k item. RecordFits item)) (sym new_is) (records_fit (store_of state) msg i.now fits))

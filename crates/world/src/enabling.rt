@@ -1,0 +1,209 @@
+ghost use Rattle.std.specs.Prelude.{◌≡◌, ◌&&◌, not};
+ghost use Rattle.std.specs.Option.{option_copied};
+ghost use Rattle.std.specs.List.{slice_get};
+ghost use Rattle.world.specs.Events.{is_dir, is_call, is_for_server, is_for_client, can_issue, can_resend, can_take, can_give_up, can_serve, is_up, is_there, misses, can_restart, can_stop, is_known, seat_at, serves_at, are_known};
+
+use crate::event::StopCause;
+use crate::state::{ClientState, ServerState};
+use bitmap::Bitmap;
+use mds_base::{Call, PlaceList, RADIX};
+use records::Msg;
+
+/// The client of a number.
+pub fn seat_at(clients: &[ClientState], client: u32) -> Option<&ClientState>
+    ensures { option_copied result ≡ seat_at clients.now client }
+{
+    if client == 0 {
+        return None;
+    }
+    clients.get(client as usize - 1)
+}
+
+/// The message at a place.
+pub fn msg_at(sent: &[Msg], place: u64) -> Option<&Msg>
+    ensures { option_copied result ≡ slice_get sent.now place }
+{
+    sent.get(place as usize)
+}
+
+/// Whether a client may number a call and send it.
+pub fn can_issue(seat: Option<&ClientState>, call: &Call) -> bool
+    ensures { result ≡ can_issue (option_copied seat.entry) call.now }
+{
+    match seat {
+        None => false,
+        Some(seat) => {
+            (!seat.quit && !seat.client.busy()) && (seat.client.seq() < 1 << 63 && is_call(call))
+        }
+    }
+}
+
+/// Whether a client may send its open call again.
+pub fn can_resend(seat: Option<&ClientState>) -> bool
+    ensures { result ≡ can_resend (option_copied seat.entry) }
+{
+    match seat {
+        None => false,
+        Some(seat) => {
+            (!seat.quit && seat.client.busy())
+                && (seat.client.seq() < 1 << 63 && seat.client.attempt() < 1 << 31)
+        }
+    }
+}
+
+/// Whether a client may take a message.
+pub fn can_take(seat: Option<&ClientState>) -> bool
+    ensures { result ≡ can_take (option_copied seat.entry) }
+{
+    match seat {
+        None => false,
+        Some(seat) => seat.client.seq() < 1 << 63 && seat.client.attempt() < 1 << 31,
+    }
+}
+
+/// Whether a client may give its open call up.
+pub fn can_give_up(seat: Option<&ClientState>) -> bool
+    ensures { result ≡ can_give_up (option_copied seat.entry) }
+{
+    match seat {
+        None => false,
+        Some(seat) => !seat.quit && seat.client.busy(),
+    }
+}
+
+fn is_call(call: &Call) -> bool
+    ensures { result ≡ is_call call.now }
+{
+    match call {
+        Call::Create { dir, .. } => is_dir(*dir),
+        Call::Mkdir { dir, .. } => is_dir(*dir),
+        Call::Remove { dir, .. } => is_dir(*dir),
+        Call::Lookup { dir, .. } => is_dir(*dir),
+        Call::Setattr { dir, mode, .. } => is_dir(*dir) && *mode <= 4095,
+        Call::Scan { .. } => false,
+        Call::Grab { .. } => false,
+        Call::Load { .. } => false,
+        Call::Link { .. } => false,
+    }
+}
+
+fn is_dir(dir: u64) -> bool
+    ensures { result ≡ is_dir dir }
+{
+    1 <= dir && dir < 1 << 48
+}
+
+/// Whether a server may serve a message.
+pub fn can_serve(state: Option<&ServerState>) -> bool
+    ensures { result ≡ can_serve (option_copied state.entry) }
+{
+    match state {
+        None => false,
+        Some(state) => state.up && state.node.has_numbers(),
+    }
+}
+
+/// Whether there is a server, and it is up.
+pub fn is_up(state: Option<&ServerState>) -> bool
+    ensures { result ≡ is_up (option_copied state.entry) }
+{
+    match state {
+        None => false,
+        Some(state) => state.up,
+    }
+}
+
+/// Whether a server may stop for this cause.
+pub fn can_stop(state: Option<&ServerState>, cause: StopCause) -> bool
+    ensures { result ≡ can_stop (option_copied state.entry) cause }
+{
+    match cause {
+        StopCause::Asked => is_up(state),
+        StopCause::Device => state.is_some(),
+    }
+}
+
+/// Whether a server may come up with so many of its records in doubt.
+pub fn can_restart(state: Option<&ServerState>, kept: u32) -> bool
+    ensures { result ≡ can_restart (option_copied state.entry) kept }
+{
+    match state {
+        None => false,
+        Some(state) => !state.up && (kept == 0 || kept as usize == state.doubt.records().len()),
+    }
+}
+
+/// Whether the places are those of one message, which is for the server.
+pub fn serves_at(sent: &[Msg], server: u32, places: &PlaceList) -> bool
+    ensures { result ≡ serves_at sent.now server places.now }
+{
+    match places.places() {
+        [place] => is_for_server(server, msg_at(sent, *place)),
+        _ => false,
+    }
+}
+
+fn is_for_server(server: u32, msg: Option<&Msg>) -> bool
+    ensures { result ≡ is_for_server server (option_copied msg.entry) }
+{
+    match msg {
+        Some(Msg::Request { server: to, .. }) => *to == server,
+        Some(Msg::Transfer { server: to, .. }) => *to == server,
+        Some(Msg::Installed { server: to, .. }) => *to == server,
+        _ => false,
+    }
+}
+
+/// Whether a message is for a client.
+pub fn is_for_client(client: u32, msg: Option<&Msg>) -> bool
+    ensures { result ≡ is_for_client client (option_copied msg.entry) }
+{
+    match msg {
+        Some(Msg::Redirect { client: to, .. }) => *to == client,
+        Some(Msg::Answer { client: to, .. }) => *to == client,
+        Some(Msg::Busy { client: to, .. }) => *to == client,
+        Some(Msg::Held { client: to, .. }) => *to == client,
+        _ => false,
+    }
+}
+
+/// Whether a message is for a server that is down.
+pub fn misses(servers: &[ServerState], msg: Option<&Msg>) -> bool
+    ensures { result ≡ misses servers.now (option_copied msg.entry) }
+{
+    match msg {
+        Some(Msg::Request { server, .. }) => is_down(servers.get(*server as usize)),
+        Some(Msg::Transfer { server, .. }) => is_down(servers.get(*server as usize)),
+        Some(Msg::Installed { server, .. }) => is_down(servers.get(*server as usize)),
+        _ => false,
+    }
+}
+
+fn is_down(state: Option<&ServerState>) -> bool
+    ensures { result ≡ (is_there (option_copied state.entry) && not (is_up (option_copied state.entry))) }
+{
+    match state {
+        None => false,
+        Some(state) => !state.up,
+    }
+}
+
+/// Whether clients know each partition of a bitmap of a directory.
+pub fn are_known(clients: &[ClientState], dir: u64, bitmap: &Bitmap) -> bool
+    ensures { result ≡ are_known clients.now dir bitmap.now }
+{
+    // A bitmap has no partition from 2 ^ RADIX on, as `has` says.
+    let _whole = bitmap.has(0);
+    for part in 0..1 << RADIX {
+        if bitmap.has(part) && !is_known(clients, dir, part) {
+            return false;
+        }
+    }
+    true
+}
+
+fn is_known(clients: &[ClientState], dir: u64, part: u32) -> bool
+    ensures { result ≡ is_known clients.now dir part }
+{
+    clients.iter().any(|seat| seat.client.bitmap(dir).has(part))
+}
