@@ -182,7 +182,7 @@ module _ {D : Type 0} (seen : D → Contents) (images : D → Image → Type 0) 
         entries = last.past.entries;
         reached = (ends.from, ends.there, ends.reached, ends.may, refl, refl);
         shows = shows_fresh (seen_by seen) (images_by images) setup (list_map opened last.world.servers) last.past.entries sim fresh
-        (are_servers t.world.servers (list_map opened last.world.servers) are (length-map last.world.servers opened ∙ (closes_as t keep).count) (begins_again t keep sure chosen.1));
+            (are_servers t.world.servers (list_map opened last.world.servers) are (length-map last.world.servers opened ∙ (closes_as t keep).count) (begins_again t keep sure chosen.1));
       }
 
   pub opens_from : 0 < setup.servers → (past : List PastRun) → AreReached seen images setup disks past → OpensFrom (seen_by seen) (images_by images) setup past sim

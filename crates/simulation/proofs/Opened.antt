@@ -1,18 +1,18 @@
 -- What bringing up one server says of its disk.
-use Rattle.std.proofs.Common.{◌≡◌, sym, ap, subst, refl, ℕ, ◌≤◌, true, false, List, ◌++◌, Option, Some, None, is_some}
+use Rattle.std.proofs.Common.{◌≡◌, sym, ap, subst, refl, ℕ, ◌≤◌, true, false, List, [], ◌++◌, Option, Some, None, is_some}
 use Rattle.std.specs.Prelude.{map as list_map}
 use Rattle.mds_base.specs.declared.setup.Setup.{Setup}
 use Rattle.mds_base.specs.declared.store_fault.StoreFault.{StoreFault}
 use Rattle.mds_base.specs.declared.store_fault.StoreFault.TheVariants.{Device, Stopped, Damaged, Room, OutOfMemory}
-
 use Rattle.mds_out.specs.Disk.{Image, Contents, Tells, LeavesOnly}
 use Rattle.mds_out.specs.Fault.{Rose}
+use Rattle.mds_out.specs.Fused.{Fused}
 use Rattle.mds_out.specs.Known.{OnTold}
 use Rattle.node_core.specs.Nodes.{StoreV}
-use Rattle.node_store.specs.Stands.{opened_store}
+use Rattle.node_store.specs.Stands.{FileStandsFor, opened_store}
 use Rattle.node_store.specs.Reading.{IsRefusal, IsBad}
-use Rattle.node_store.specs.Store.{KeepsAny, StandsForAny, LeavesOpened}
-use Rattle.simulation.specs.Openings.{IsHandedBack, IsOpenFault}
+use Rattle.node_store.specs.Store.{Store, KeepsAny, StandsForAny, LeavesOpened}
+use Rattle.simulation.specs.Openings.{IsHandedBack, IsUpOn, IsOpenFault}
 
 tells_still : (old new : Option (List ℕ)) → Tells old new (λ before now. Unit {0}) → is_some old ≡ true → is_some new ≡ true
 tells_still None new stays some = absurd (let n : false ≡ true = some in cc)
@@ -42,3 +42,11 @@ open_fault faults seen setup s old new Stopped refused device = refused
 open_fault faults seen setup s old new (Damaged file place damage) refused device = refused
 open_fault faults seen setup s old new Room refused device = refused
 open_fault faults seen setup s old new OutOfMemory refused device = tt
+
+-- the server that is up on the disk, once a fuse is round it
+pub fused_up : {D : Type 0} (seen : D → Contents) (images : D → Image → Type 0) (setup : Setup) (s : ℕ) (old : D) (store : Store D) (fused : Store (Fused D))
+    → fused ≡ record { disk = record { inner = store.disk; left = None; refused = 0 }; server = store.server; setup = store.setup; log = store.log; up = store.up; doubt = store.doubt }
+    → (store.server ≡ s) × (store.setup ≡ setup) → store.doubt ≡ [] → OnTold (seen old 1) (λ bytes. (st : StoreV) × FileStandsFor s setup bytes st × (store.up ≡ Some (opened_store st))) → IsHandedBack seen images setup s old store.disk
+    → IsUpOn seen images setup s old fused
+fused_up seen images setup s old store fused is named sure opened back =
+    subst (IsUpOn seen images setup s old) (sym is) (record { server = named.0; setup' = named.1; sure = sure; opened = opened; back = back })

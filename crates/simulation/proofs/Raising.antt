@@ -51,7 +51,6 @@ module _ {D : Type 0} (seen : D → Contents) (images : D → Image → Type 0) 
   pub raised_count : (left : List D) (server : ℕ) (stores : List (Store (Fused D))) → AreRaised seen images setup disks left server stores → length stores ≡ server
   raised_count left server stores so = paired_length (IsUpOn seen images setup) 0 so.done stores so.up ∙ sym so.count
 
-
 -- The disks where a server was refused
 
 any_front : (s : ℕ) (setup : Setup) (stores more : List StoreV) (file : List ℕ) → StandsForAny s setup stores file → StandsForAny s setup (stores ++ more) file
@@ -70,7 +69,7 @@ same_value : {X : Type 0} (x y : X) → Some x ≡ Some y → x ≡ y
 same_value x y e = cc
 
 module _ {D : Type 0} (seen : D → Contents) (images : D → Image → Type 0) (setup : Setup) (disks left rest : List D) (server : ℕ) (stores : List (Store (Fused D))) (disk new : D) (front back : List D)
-  (so : AreRaised seen images setup disks left server stores) (first : left ≡ disk ∷ rest) (out : Paired (λ k. IsDiskOf seen images) 0 stores front) (all : back ≡ front ++ new ∷ rest) where
+    (so : AreRaised seen images setup disks left server stores) (first : left ≡ disk ∷ rest) (out : Paired (λ k. IsDiskOf seen images) 0 stores front) (all : back ≡ front ++ new ∷ rest) where
   whole : so.done ++ disk ∷ rest ≡ disks
   whole = ap (λ l. so.done ++ l) (sym first) ∙ so.split
 
@@ -80,11 +79,13 @@ module _ {D : Type 0} (seen : D → Contents) (images : D → Image → Type 0) 
   pub all_back : IsHandedBack seen images setup server disk new → Paired (IsHandedBack seen images setup) 0 disks back
   all_back is =
       let n : server ≡ 0 + length so.done = let c = so.count in omega arith in
-      let one : Paired (IsHandedBack seen images setup) (0 + length so.done) (disk ∷ rest) (new ∷ rest) =
-      (subst (λ k. IsHandedBack seen images setup k disk new) n is, paired_self (IsHandedBack seen images setup) (λ k x. record {
-        told = λ some. some;
-        left = λ some stores keeps image among. any_front k setup stores (list_map opened_store stores) (image 1) (keeps image among);
-      }) (0 + length so.done + 1) rest) in
+      let one : Paired (IsHandedBack seen images setup) (0 + length so.done) (disk ∷ rest) (new ∷ rest) = (
+        subst (λ k. IsHandedBack seen images setup k disk new) n is,
+        paired_self (IsHandedBack seen images setup) (λ k x. record {
+          told = λ some. some;
+          left = λ some stores keeps image among. any_front k setup stores (list_map opened_store stores) (image 1) (keeps image among);
+        }) (0 + length so.done + 1) rest,
+      ) in
       subst (λ l. Paired (IsHandedBack seen images setup) 0 l back) whole
       (subst (Paired (IsHandedBack seen images setup) 0 (so.done ++ disk ∷ rest)) (sym all)
       (paired_join (IsHandedBack seen images setup) 0 so.done (disk ∷ rest) front (new ∷ rest) (opened_back seen images setup 0 so.done stores front so.up out) one))

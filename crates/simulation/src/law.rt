@@ -7,5 +7,4 @@ use mds_out::Disk;
 /// over disks may begin where the one before it ended (`docs/DEFINITIONS.md`, "Simulation").
 pub fn laws_of_pasts<D: Disk>()
     ensures { RunsAreReached D.seen D.images }
-{
-}
+{}

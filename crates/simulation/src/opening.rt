@@ -40,11 +40,7 @@ impl<D: Disk + Drop> Simulation<D> {
     /// Where the disks are new, or are left by past runs, the run begins where those lead: whether the records in doubt
     /// of a server that was down were kept is what its disk turned out to hold. Where a server is refused all disks come
     /// back, each at its place, and those after it are as they were. The memory for handing them back is taken first.
-    pub fn open(
-        alloc: Global,
-        setup: Setup,
-        disks: Vec<D>,
-    ) -> Result<Simulation<D>, NotOpened<D>>
+    pub fn open(alloc: Global, setup: Setup, disks: Vec<D>) -> Result<Simulation<D>, NotOpened<D>>
         requires setup { IsSetup setup }
         requires disks { length disks.items ≡ setup.servers }
         ensures begins { IfOk result (λ sim. (past : List PastRun) → AreReached D.seen D.images setup disks.items past → OpensFrom (seen_by D.seen) (images_by D.images) setup past sim) }
@@ -88,10 +84,12 @@ impl<D: Disk + Drop> Simulation<D> {
         ensures same { result.items ≡ map (λ store. store.disk.inner) self.stores }
     {
         let Simulation {
-            stores, mut back, ..
+            stores,
+            back: mut disks,
+            ..
         } = self;
-        put_back(stores, &mut back);
-        back
+        put_back(stores, &mut disks);
+        disks
     }
 }
 

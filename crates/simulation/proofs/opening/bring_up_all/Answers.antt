@@ -45,6 +45,6 @@ loop-disk-preserved g c =
     let cap = c.push_reserved.ensures.capacity in
     record {
       so = raised_one d.seen d.images c.args.setup c.args.disks.items (into_iter_items at.rest) (into_iter_items c.next.new.self) at.server (at.server + 1) at.stores.items c.push_reserved.new.self.items c.in-Some.disk c.in-Ok.store
-      at.invariant.so c.in-Some.ensures.items c.in-Ok.ensures.up refl c.push_reserved.ensures.items;
+          at.invariant.so c.in-Some.ensures.items c.in-Ok.ensures.up refl c.push_reserved.ensures.items;
       room = omega arith;
     }

@@ -30,6 +30,9 @@ returns g c =
     let at = c.loop-disk in
     let none = c.in-None.ensures.steps in
     let len = at.disk-iterator.rest.ok in
-    let empty : into_iter_items at.disk-iterator ≡ [] = nothing_left (into_iter_items at.disk-iterator) (omega arith) in
-    (out.0, whole c.args.back.items out.0 c.put_back.new.back.items c.push_reserved.new.self.items (into_iter_items c.args.rest) (into_iter_items c.into_iter-disk-iterator.result) at.back.items (into_iter_items at.disk-iterator) c.args.refused
-      c.requires.none out.1 c.push_reserved.ensures.items (ap into_iter_items c.into_iter-disk-iterator.ensures.into_iter_gives) at.invariant.all empty, out.2)
+    let empty : into_iter_items at.disk-iterator ≡ [] = nothing_left (into_iter_items at.disk-iterator) (omega arith) in (
+      out.0,
+      whole c.args.back.items out.0 c.put_back.new.back.items c.push_reserved.new.self.items (into_iter_items c.args.rest) (into_iter_items c.into_iter-disk-iterator.result) at.back.items (into_iter_items at.disk-iterator) c.args.refused
+          c.requires.none out.1 c.push_reserved.ensures.items (ap into_iter_items c.into_iter-disk-iterator.ensures.into_iter_gives) at.invariant.all empty,
+      out.2,
+    )

@@ -31,7 +31,7 @@ loop-store-preserved g c =
     let pushed = c.push_reserved.ensures in
     record {
       so = put_one d.seen d.images (into_iter_items c.into_iter-store-iterator.result) c.args.back.now.items (into_iter_items c.loop-store.store-iterator) (into_iter_items c.next.new.self) c.loop-store.back.items c.push_reserved.new.self.items c.in-Some.store c.into_inner.result
-      old.so steps (disk_of d.seen d.images c.in-Some.store c.into_disk.result c.into_inner.result c.into_disk.ensures.disk c.into_inner.ensures c.into_disk.ensures.kept) pushed.items;
+          old.so steps (disk_of d.seen d.images c.in-Some.store c.into_disk.result c.into_inner.result c.into_disk.ensures.disk c.into_inner.ensures c.into_disk.ensures.kept) pushed.items;
       room = omega arith;
       grown = omega arith;
     }

@@ -14,10 +14,12 @@ use Rattle.simulation.proofs.simulation.Simulation.open.Goals as goal
 pub invariant_of-result : goal.invariant_of-result
 invariant_of-result g c =
     let d = g.D.Disk in
-    let x = c.in-Ok-bring_up_all in
-    (subst (λ (sent : List Msg). AreRanges c.args.setup 0 0 x.stores.items c.in-Ok.clients.items sent) (sym c.new.ensures)
-      (fresh_ranges d.seen d.images c.args.setup c.args.disks.items x.stores.items c.in-Ok.clients.items c.requires.setup c.requires.disks x.ensures.up c.in-Ok.ensures),
-      x.ensures.room.0, x.ensures.room.1)
+    let x = c.in-Ok-bring_up_all in (
+      subst (λ (sent : List Msg). AreRanges c.args.setup 0 0 x.stores.items c.in-Ok.clients.items sent) (sym c.new.ensures)
+          (fresh_ranges d.seen d.images c.args.setup c.args.disks.items x.stores.items c.in-Ok.clients.items c.requires.setup c.requires.disks x.ensures.up c.in-Ok.ensures),
+      x.ensures.room.0,
+      x.ensures.room.1,
+    )
 
 pub returns-in-Ok-bring_up_all-clause-begins : goal.returns-in-Ok-bring_up_all-clause-begins
 returns-in-Ok-bring_up_all-clause-begins g c =
@@ -36,16 +38,16 @@ returns-in-Ok-bring_up_all-clause-begins g c =
       taken = set.from_list {R = nat_cmp} c.new-in-Ok-bring_up_all-3.result.keys;
     } in
     λ past reached.
-        opens_from d.seen d.images g.met.D.Disk.reads_as c.laws_of_disks.ensures.one c.args.setup sim c.args.disks.items x.ensures.up (record {
-          setup' = refl;
-          moment = refl;
-          count = refl;
-          clients = c.in-Ok.ensures;
-          sent = c.new.ensures;
-          waiting = ap (set.from_list {R = waiting_cmp}) c.new-in-Ok-bring_up_all.ensures.empty;
-          made = c.new-in-Ok-bring_up_all-2.ensures.items;
-          taken = ap (set.from_list {R = nat_cmp}) c.new-in-Ok-bring_up_all-3.ensures.empty;
-        }) some past reached
+    opens_from d.seen d.images g.met.D.Disk.reads_as c.laws_of_disks.ensures.one c.args.setup sim c.args.disks.items x.ensures.up (record {
+      setup' = refl;
+      moment = refl;
+      count = refl;
+      clients = c.in-Ok.ensures;
+      sent = c.new.ensures;
+      waiting = ap (set.from_list {R = waiting_cmp}) c.new-in-Ok-bring_up_all.ensures.empty;
+      made = c.new-in-Ok-bring_up_all-2.ensures.items;
+      taken = ap (set.from_list {R = nat_cmp}) c.new-in-Ok-bring_up_all-3.ensures.empty;
+    }) some past reached
 
 pub returns-in-Err-clause-still : goal.returns-in-Err-clause-still
 returns-in-Err-clause-still g c =
