@@ -1,6 +1,6 @@
 -- A fuse that is armed changes nothing that a run tells.
-use Rattle.std.proofs.Common.{◌≡◌, ◌∙◌, sym, ap, subst, refl, ℕ, ◌<◌, Bool, true, false, List, length, get_or, Option, Some, None, inl, inr}
-use Rattle.std.specs.Prelude.{slice_set, ◌⊎◌}
+use Rattle.std.proofs.Common.{◌≡◌, ◌∙◌, sym, ap, subst, refl, ℕ, ◌<◌, Bool, true, false, List, length, get_or, Some, inl, inr}
+use Rattle.std.specs.Prelude.{slice_set}
 use Rattle.std.specs.List.{slice_get}
 use Rattle.std.proofs.lemmas.Option.{slice_get_read}
 use Rattle.mds_base.specs.declared.setup.Setup.{Setup}
@@ -8,13 +8,13 @@ use Rattle.mds_out.specs.Disk.{Image, Contents}
 use Rattle.mds_out.specs.Fused.{Fused}
 use Rattle.records.specs.declared.msg.Msg.{Msg}
 use Rattle.client_core.specs.Clients.{ClientV}
-use Rattle.node_store.specs.Store.{Store, IsDownAt}
+use Rattle.node_store.specs.Store.{Store}
 use Rattle.world.specs.declared.state.ServerState.{ServerState}
 use Rattle.world.proofs.Grow.{each_set, get_set, length_set}
 use Rattle.simulation.specs.Calls.{armed}
 use Rattle.simulation.specs.Fuses.{seen_by, images_by}
 use Rattle.simulation.specs.Ranges.{AreRanges}
-use Rattle.simulation.specs.Shows.{SimulationV, IsServerAt, IsServer, AreServers, Shows, ShowsSame}
+use Rattle.simulation.specs.Shows.{SimulationV, IsServerAt, IsServer, AreServers, ShowsSame}
 
 -- the simulation with other servers
 abbrev pub with_stores : {X : Type 0} → SimulationV X → List (Store X) → SimulationV X

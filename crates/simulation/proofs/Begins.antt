@@ -1,5 +1,5 @@
 -- A simulation that was opened begins a run where the past of its disks leads.
-use Rattle.std.proofs.Common.{◌≡◌, ◌∙◌, sym, ap, subst, refl, ℕ, ◌+◌, ◌<◌, ◌&&◌, not, Bool, true, false, cond, List, [], ◌∷◌, length, Option, Some, None, is_some, arith}
+use Rattle.std.proofs.Common.{◌≡◌, ◌∙◌, sym, ap, subst, refl, ℕ, ◌<◌, ◌&&◌, not, Bool, true, false, cond, List, [], ◌∷◌, length, Option, Some, is_some, arith}
 use Rattle.std.specs.Prelude.{map as list_map}
 use Rattle.std.specs.List.{slice_get, range_with_len}
 use Rattle.std.proofs.lemmas.List.{length-map}
@@ -21,14 +21,14 @@ use Rattle.world.specs.Events.{is_for_server}
 use Rattle.world.specs.Histories.{Trace, run}
 use Rattle.world.specs.Law.{PastRun, new_servers, opened, ended, start_trace}
 use Rattle.world.specs.Lists.{Each}
-use Rattle.world.specs.Worlds.{store_of, new_server, new_seat, fresh_world}
+use Rattle.world.specs.Worlds.{store_of, new_server, new_seat}
 use Rattle.world.proofs.Grow.{within}
 use Rattle.world.proofs.Happens.{run_keeps}
 use Rattle.world.proofs.Invariant.{Inv}
 use Rattle.world.proofs.Starts.{get_below, get_mapped, start_inv}
 use Rattle.world.proofs.Theorem.{reached_start}
 use Rattle.simulation.specs.Fuses.{seen_by, images_by}
-use Rattle.simulation.specs.Openings.{with_choice, OpensFrom, Paired, IsUpOn, IsFresh}
+use Rattle.simulation.specs.Openings.{OpensFrom, Paired, IsUpOn, IsFresh}
 use Rattle.simulation.specs.Runs.{start_run, is_named}
 use Rattle.simulation.specs.Shows.{SimulationV, Shows, AreServers, IsServer, IsServerAt, waiting_cmp}
 use Rattle.simulation.specs.Starts.{EndsAt, AreDisks, AreReached}

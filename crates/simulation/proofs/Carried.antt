@@ -1,5 +1,5 @@
 -- From what calls of the parts of a simulation gave to what its own calls say.
-use Rattle.std.proofs.Common.{◌≡◌, ◌∙◌, sym, ap, subst, refl, ℕ, zero, suc, ◌+◌, ◌-◌, ◌<◌, ◌≤◌, ◌^◌, ◌==◌, Bool, true, false, not, is_some, List, [], ◌∷◌, ◌++◌, length, get_or, Option, Some, None, Result, Ok, Err, IfOk, OnOk, OnErr, inl, arith}
+use Rattle.std.proofs.Common.{◌≡◌, ◌∙◌, sym, ap, subst, refl, ℕ, zero, suc, ◌+◌, ◌-◌, ◌<◌, ◌≤◌, ◌^◌, ◌==◌, true, not, is_some, List, [], ◌∷◌, ◌++◌, length, get_or, Option, Some, None, Result, Ok, Err, IfOk, OnOk, OnErr, arith}
 use Rattle.std.specs.Prelude.{slice_set}
 use Rattle.std.specs.List.{slice_get}
 use Rattle.std.specs.FinSet as set
@@ -7,7 +7,7 @@ use Rattle.std.specs.Ordering.{nat_cmp}
 use Rattle.std.specs.declared.alloc.AllocError.{AllocError}
 use Rattle.std.proofs.lemmas.Bool.Decides.{nat_tests}
 use Rattle.std.proofs.lemmas.List.{length-append}
-use Rattle.std.proofs.lemmas.Option.{get_or_from_slice_get, slice_get_read, slice_get_within}
+use Rattle.std.proofs.lemmas.Option.{get_or_from_slice_get, slice_get_read}
 use Rattle.mds_base.specs.declared.call.Call.{Call}
 use Rattle.mds_base.specs.declared.call.Call.TheVariants.{Create, Mkdir, Remove, Lookup, Setattr, Scan, Grab, Load, Link}
 use Rattle.mds_base.specs.declared.setup.Setup.{Setup}
@@ -29,7 +29,7 @@ use Rattle.simulation.proofs.Ranged.{seat_more, issued_seat, resent_seat, taken_
 use Rattle.simulation.proofs.Seats.{index_is}
 use Rattle.simulation.proofs.Sending.{sent_by, issue_happens, resend_happens}
 use Rattle.simulation.proofs.Showing.{happens_from}
-use Rattle.simulation.proofs.Taking.{taken_by, take_happens}
+use Rattle.simulation.proofs.Taking.{take_happens}
 
 -- The client of a number
 
@@ -131,32 +131,33 @@ module _ {X : Type 0} (setup : Setup) (now count : ℕ) (stores : List (Store X)
         → AreRanges setup now (count + 1) stores (slice_set clients k client') sent'
     ranged_either client' msg sent' result seat good ok err =
         either (λ (l : List Msg). AreRanges setup now (count + 1) stores (slice_set clients k client') l) result sent' (sent ++ msg ∷ []) sent ok err
-          (ranged_sent setup now count stores clients sent r room k client' msg seat good)
-          (ranged_client setup now count stores clients sent r room k client' seat)
+        (ranged_sent setup now count stores clients sent r room k client' msg seat good)
+        (ranged_client setup now count stores clients sent r room k client' seat)
 
     pub ranged_issued : (call : Call) (client' : ClientV) (msg : Msg) (sent' : List Msg) (waiting waiting' : set.FinSet waiting_cmp) (result : Result ℕ AllocError) → IsWellMade call → client' ≡ issued client call → msg ≡ issue_msg client call → IsSend result sent sent' waiting waiting' msg
         → AreRanges setup now (count + 1) stores (slice_set clients k client') sent'
     ranged_issued call client' msg sent' waiting waiting' result made after request did =
         ranged_either client' msg sent' result
-          (subst (IsSeat setup (count + 1) k) (sym after) (issued_seat setup count k client call (r.seats.at k client is) made))
-          (subst (IsSent setup.servers) (sym request) (issued_sent setup now count stores clients sent r room k client call is made))
-          did.stands did.err
+        (subst (IsSeat setup (count + 1) k) (sym after) (issued_seat setup count k client call (r.seats.at k client is) made))
+        (subst (IsSent setup.servers) (sym request) (issued_sent setup now count stores clients sent r room k client call is made))
+        did.stands did.err
 
     pub ranged_resent : (pending : Pending) (client' : ClientV) (msg : Msg) (sent' : List Msg) (waiting waiting' : set.FinSet waiting_cmp) (result : Result ℕ AllocError) → client.pending ≡ Some pending → client' ≡ resent client pending → msg ≡ resend_msg client pending → IsSend result sent sent' waiting waiting' msg
         → AreRanges setup now (count + 1) stores (slice_set clients k client') sent'
     ranged_resent pending client' msg sent' waiting waiting' result busy after request did =
         ranged_either client' msg sent' result
-          (subst (IsSeat setup (count + 1) k) (sym after) (resent_seat setup count k client pending (r.seats.at k client is) busy))
-          (subst (IsSent setup.servers) (sym request) (resent_sent setup now count stores clients sent r room k client pending is busy))
-          did.stands did.err
+        (subst (IsSeat setup (count + 1) k) (sym after) (resent_seat setup count k client pending (r.seats.at k client is) busy))
+        (subst (IsSent setup.servers) (sym request) (resent_sent setup now count stores clients sent r room k client pending is busy))
+        did.stands did.err
 
 -- What a send says
 
 pub send_place : {X : Type 0} (was old : SimulationV X) (sent' : List Msg) (waiting waiting' : set.FinSet waiting_cmp) (result : Result ℕ AllocError) (msg : Msg) → was ≡ old → IsSend result was.sent sent' waiting waiting' msg
     → IfOk result (λ place. (place ≡ length old.sent) × (length sent' ≡ place + 1))
-send_place {X = X} was old sent' waiting waiting' (Ok place) msg same did =
-    (did.place ∙ ap (λ (v : SimulationV X). length v.sent) same,
-     ap length did.stands ∙ length-append was.sent (msg ∷ []) ∙ ap (λ n. n + 1) (sym did.place))
+send_place {X = X} was old sent' waiting waiting' (Ok place) msg same did = (
+  did.place ∙ ap (λ (v : SimulationV X). length v.sent) same,
+  ap length did.stands ∙ length-append was.sent (msg ∷ []) ∙ ap (λ n. n + 1) (sym did.place),
+)
 send_place was old sent' waiting waiting' (Err e) msg same did = tt
 
 same_number : (a b : ℕ) → a ≡ b → (a == b) ≡ true
@@ -177,7 +178,7 @@ asked : {X : Type 0} (sim : SimulationV X) (setup : Setup) (sent sent' : List Ms
     → client.number ≡ number → IsSend result sent sent' waiting waiting' msg → IfOk result (λ place. IsRequestAt sim number place)
 asked sim setup sent sent' waiting waiting' client seq attempt call msg number (Ok place) same_setup same_sent request good numbered did =
     request_stands sim sent client seq attempt call number place (same_sent ∙ did.stands ∙ ap (λ m. sent ++ m ∷ []) request) did.place numbered
-      (subst (λ (s : Setup). IsSent s.servers (request_of client seq attempt call)) (sym same_setup) good)
+    (subst (λ (s : Setup). IsSent s.servers (request_of client seq attempt call)) (sym same_setup) good)
 asked sim setup sent sent' waiting waiting' client seq attempt call msg number (Err e) same_setup same_sent request good numbered did = tt
 
 module _ {X : Type 0} (setup : Setup) (now count : ℕ) (stores : List (Store X)) (clients : List ClientV) (sent : List Msg) (r : AreRanges setup now count stores clients sent) (room : count < 2 ^ 20) (number : ℕ) (client : ClientV) (at : IsAt clients number client) where
@@ -188,13 +189,13 @@ module _ {X : Type 0} (setup : Setup) (now count : ℕ) (stores : List (Store X)
       → IfOk result (λ place. IsRequestAt sim number place)
   issue_asks sim call msg sent' waiting waiting' result same_setup same_sent made request did =
       asked sim setup sent sent' waiting waiting' client (client.seq + 1) 1 call msg number result same_setup same_sent request
-        (issued_sent setup now count stores clients sent r room (number - 1) client call at.place made) numbered did
+      (issued_sent setup now count stores clients sent r room (number - 1) client call at.place made) numbered did
 
   pub resend_asks : {Y : Type 0} (sim : SimulationV Y) (pending : Pending) (msg : Msg) (sent' : List Msg) (waiting waiting' : set.FinSet waiting_cmp) (result : Result ℕ AllocError) → sim.setup ≡ setup → sim.sent ≡ sent' → client.pending ≡ Some pending → msg ≡ resend_msg client pending → IsSend result sent sent' waiting waiting' msg
       → IfOk result (λ place. IsRequestAt sim number place)
   resend_asks sim pending msg sent' waiting waiting' result same_setup same_sent busy request did =
       asked sim setup sent sent' waiting waiting' client client.seq (pending.attempt + 1) pending.call msg number result same_setup same_sent request
-        (resent_sent setup now count stores clients sent r room (number - 1) client pending at.place busy) numbered did
+      (resent_sent setup now count stores clients sent r room (number - 1) client pending at.place busy) numbered did
 
 -- Which event happened
 
@@ -227,13 +228,13 @@ module _ {X : Type 0} (seen : X → Contents) (images : X → Image → Type 0) 
       → OnOk result (Happens seen images old (with_sent was (number - 1) client' sent' waiting') (Issue number call))
   issue_done call client' msg sent' waiting' result idle served after request did =
       send_gives (λ v. Happens seen images old v (Issue number call)) was number (issued client call) client' (issue_msg client call) msg sent' waiting' result after request did
-        (happens_from seen images was old _ (Issue number call) same (issue_happens seen images was number client call at.is idle few served))
+      (happens_from seen images was old _ (Issue number call) same (issue_happens seen images was number client call at.is idle few served))
 
   pub resend_done : (pending : Pending) (client' : ClientV) (msg : Msg) (sent' : List Msg) (waiting' : set.FinSet waiting_cmp) (result : Result ℕ AllocError) → client.pending ≡ Some pending → pending.attempt < 2 ^ 31 → client' ≡ resent client pending → msg ≡ resend_msg client pending → IsSend result was.sent sent' was.waiting waiting' msg
       → OnOk result (Happens seen images old (with_sent was (number - 1) client' sent' waiting') (Resend number))
   resend_done pending client' msg sent' waiting' result busy short after request did =
       send_gives (λ v. Happens seen images old v (Resend number)) was number (resent client pending) client' (resend_msg client pending) msg sent' waiting' result after request did
-        (happens_from seen images was old _ (Resend number) same (resend_happens seen images was number client pending at.is busy few short))
+      (happens_from seen images was old _ (Resend number) same (resend_happens seen images was number client pending at.is busy few short))
 
 -- A client takes a message
 
@@ -274,7 +275,7 @@ module _ {X : Type 0} (was old : SimulationV X) (same : was ≡ old) (number pla
   pub take_said : (taken : Taken) → taken ≡ (taking.take client msg).taken → taken_of (client_at old.clients number) (slice_get old.sent place) ≡ Some taken
   take_said taken said =
       subst (λ (v : SimulationV X). taken_of (client_at v.clients number) (slice_get v.sent place) ≡ Some taken) same
-        (ap (λ o. taken_of o (slice_get was.sent place)) at.is ∙ ap (taken_of (Some client)) there.is ∙ ap Some (sym said))
+      (ap (λ o. taken_of o (slice_get was.sent place)) at.is ∙ ap (taken_of (Some client)) there.is ∙ ap Some (sym said))
 
   pub take_done : (seen : X → Contents) (images : X → Image → Type 0) (client' : ClientV) (places : set.FinSet nat_cmp) (taken : Taken) → client.seq < 2 ^ 63 → HasRoom client.pending → taken ≡ (taking.take client msg).taken → client' ≡ (taking.take client msg).client → places ≡ noting was.taken taken place
       → Happens seen images old (with_taken was (number - 1) client' places) (Take number place)

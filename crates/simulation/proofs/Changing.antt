@@ -1,46 +1,31 @@
 -- From what the calls of a server on a disk gave to what those of the simulation say.
-use Rattle.std.proofs.Common.{◌≡◌, ◌≢◌, ◌∙◌, sym, ap, subst, refl, ℕ, zero, suc, ◌+◌, ◌-◌, ◌<◌, ◌≤◌, ◌^◌, take, drop, Bool, true, false, is_some, List, [], ◌∷◌, ◌++◌, length, get_or, Option, Some, None, Result, Ok, Err, IfOk, OnErr, inl, inr, arith}
-use Rattle.std.specs.Prelude.{slice_set, ◌⊎◌}
+use Rattle.std.proofs.Common.{◌≡◌, ◌≢◌, ◌∙◌, sym, ap, subst, refl, ℕ, zero, suc, ◌+◌, ◌-◌, ◌<◌, ◌^◌, take, drop, true, is_some, List, [], ◌∷◌, ◌++◌, length, get_or, Option, Some, None, Result, Ok, Err, OnErr, arith}
+use Rattle.std.specs.Prelude.{slice_set}
 use Rattle.std.specs.List.{slice_get}
-use Rattle.std.specs.FinSet as set
-use Rattle.std.proofs.lemmas.List.{append-nil, length-append}
-use Rattle.std.proofs.lemmas.Option.{get_or_from_slice_get, slice_get_read}
+use Rattle.std.proofs.lemmas.List.{append-nil}
+use Rattle.std.proofs.lemmas.Option.{get_or_from_slice_get}
 use Rattle.mds_base.specs.declared.ask.Ask.{Ask}
 use Rattle.mds_base.specs.declared.setup.Setup.{Setup}
-use Rattle.mds_base.specs.declared.store_fault.StoreFault.{StoreFault}
-use Rattle.mds_base.specs.declared.store_fault.StoreFault.TheVariants as faults
 use Rattle.mds_out.specs.Disk.{Image, Contents, Tells}
 use Rattle.mds_out.specs.Fault.{Rose}
-use Rattle.records.specs.declared.handled.Handled.{Handled}
 use Rattle.records.specs.declared.msg.Msg.{Msg}
 use Rattle.records.specs.declared.msg.Msg.TheVariants.{Request, Redirect, Answer, Busy, Held, Transfer, Installed}
-use Rattle.records.specs.declared.record.Record.{Record}
 use Rattle.client_core.specs.Clients.{ClientV}
-use Rattle.node_core.specs.Nodes.{StoreV, has_numbers}
+use Rattle.node_core.specs.Nodes.{StoreV}
 use Rattle.node_core.specs.Rules.{Outcome, Silent, Looks, Repeats, Carries, outcome}
 use Rattle.node_core.specs.Serving.{serve, served_as}
-use Rattle.node_store.specs.Reading.{IsRefusal}
-use Rattle.node_store.specs.Serve.{IsMessage, IsOneMessage, HasServed, HasStopped}
+use Rattle.node_store.specs.Serve.{IsMessage}
 use Rattle.node_store.specs.Store.{Store, IsDownAt}
-use Rattle.world.specs.declared.event.Event.TheVariants.{Serve, Miss, Stop}
-use Rattle.world.specs.declared.event.ServeEnd.TheVariants as ends
-use Rattle.world.specs.declared.event.StopCause.TheVariants.{Asked}
+use Rattle.world.specs.declared.event.Event.TheVariants.{Miss}
 use Rattle.world.specs.Lists.{Each}
-use Rattle.world.proofs.Grow.{each_push, each_map, each_set, length_set, set_apart, set_here, set_same, within}
-use Rattle.simulation.specs.declared.made.Made.{Made}
-use Rattle.simulation.specs.declared.servers.Served.{Served}
-use Rattle.simulation.specs.Calls.{CanServe, CanMiss, Serves, Restarts, faults_of, faults_at}
-use Rattle.simulation.specs.Entries.{changes_of, lookup_of, with_one, ended_by}
+use Rattle.world.proofs.Grow.{each_push, each_map, each_set, length_set, set_apart, set_here}
+use Rattle.simulation.specs.Calls.{CanMiss, faults_of, faults_at}
 use Rattle.simulation.specs.Ranges.{IsSent, AreRanges}
-use Rattle.simulation.specs.Runs.{RunV}
-use Rattle.simulation.specs.Shows.{SimulationV, Shows, Happens, StaysNear, waiting_cmp, server_for, is_up, store_is_up}
-use Rattle.simulation.specs.Stores.{IsDownStill, IsRestarted, IsRevived}
+use Rattle.simulation.specs.Shows.{SimulationV, Happens, server_for, is_up, store_is_up}
 use Rattle.simulation.proofs.Ranged.{seat_more}
-use Rattle.simulation.proofs.Restarting.{known, restarted_by, failed_by, restart_happens, fail_happens, refused_near}
-use Rattle.simulation.proofs.Serving.{IsToServe, IsServedStore, IsStoppedStore, served_by, stopped_by, serve_happens, stop_happens, replies_to}
-use Rattle.simulation.proofs.Showing.{happens_from, stays_near}
-use Rattle.simulation.proofs.Standing.{IsUpWith, at_place, up_with}
-use Rattle.simulation.proofs.Stopping.{IsHaltedStore, halted_by, near_after, halt_happens, miss_happens}
+use Rattle.simulation.proofs.Showing.{happens_from}
+use Rattle.simulation.proofs.Standing.{at_place, up_with}
+use Rattle.simulation.proofs.Stopping.{IsHaltedStore, miss_happens}
 
 pub some_same : {X : Type 0} (a b : X) → Some a ≡ Some b → a ≡ b
 some_same a b e = cc
@@ -205,12 +190,9 @@ miss_done {X = X} seen images was old place same can all =
     let there = c.there in
     let s = at_place was.stores c.server (omega (arith, there, all)) in
     happens_from seen images was old _ (Miss place) same
-      (miss_happens seen images was place c.server s.item m.msg m.is m.meant s.is (down_store s.item (slice_get was.stores c.server) s.is c.down))
+    (miss_happens seen images was place c.server s.item m.msg m.is m.meant s.is (down_store s.item (slice_get was.stores c.server) s.is c.down))
 
 -- The message at a place
-
-
-
 
 one_here : (msgs : List Msg) (place : ℕ) (msg : Msg) → slice_get msgs place ≡ Some msg → take 1 (drop place msgs) ≡ msg ∷ []
 one_here [] place msg e = cc

@@ -6,7 +6,7 @@ use Rattle.std.specs.Ordering.{eq_by_cmp}
 use Rattle.std.specs.Prelude.{map as list_map}
 use Rattle.mds_base.specs.declared.setup.Setup.{Setup}
 use Rattle.node_core.specs.declared.part.Part.{Part}
-use Rattle.node_core.specs.Nodes.{NodeV, StoreV, PartKey, part_cmp, cleared_part, cleared, new_node}
+use Rattle.node_core.specs.Nodes.{StoreV, PartKey, part_cmp, cleared_part, new_node}
 use Rattle.node_core.proofs.Views.{parts_total, exact_parts}
 use Rattle.node_store.specs.Stands.{new_store, opened_store}
 

@@ -1,6 +1,6 @@
 -- The first message that waits for a server that is up.
-use Rattle.std.proofs.Common.{◌≡◌, ◌∙◌, sym, ap, subst, refl, ℕ, ◌+◌, ◌<◌, ◌≤◌, min, Bool, true, false, List, [], ◌∷◌, Option, Some, None, inl, inr, arith}
-use Rattle.std.specs.Prelude.{◌⊎◌, IfSome, IsTrue}
+use Rattle.std.proofs.Common.{◌≡◌, ◌∙◌, sym, ap, subst, ℕ, ◌+◌, ◌<◌, ◌≤◌, min, true, false, List, [], ◌∷◌, Option, Some, None, inl, inr, arith}
+use Rattle.std.specs.Prelude.{◌⊎◌, IfSome}
 use Rattle.std.specs.List.{slice_get}
 use Rattle.std.specs.BTreeSet as sorted
 use Rattle.std.specs.BTreeSet.{BTreeSet, IsKeyRangeOf, IsKeyInRange}
@@ -40,7 +40,7 @@ module _ (s : BTreeSet (ℕ × ℕ)) (server : ℕ) (r : List (ℕ × ℕ)) (ran
     least : (other : ℕ) → Waits s.keys server other → (of < server) ⊎ ((of ≡ server) × (place ≤ other))
     least other waits =
         order of place server other
-          (subst (λ o. IfSome o (λ k. is_gt (waiting_cmp k (server, other)) ≡ false)) first_is (range.2 (server, other) (same_server server other, tt) (here server other waits)))
+        (subst (λ o. IfSome o (λ k. is_gt (waiting_cmp k (server, other)) ≡ false)) first_is (range.2 (server, other) (same_server server other, tt) (here server other waits)))
 
     found : IsKeyInRange waiting_cmp (Included (server, 0)) Unbounded s (of, place)
     found = subst (λ o. IfSome o (λ k. IsKeyInRange waiting_cmp (Included (server, 0)) Unbounded s k)) first_is range.1
@@ -51,17 +51,18 @@ module _ (s : BTreeSet (ℕ × ℕ)) (server : ℕ) (r : List (ℕ × ℕ)) (ran
 
     pub others_for : (of ≡ server → ⊥) → IsFirst (Waits s.keys server) None
     others_for differ other waits = elim (least other waits) [
-        | inl below ↦ (let from = from_server in omega (arith, below, from))
-        | inr same ↦ differ same.0
-      ]
+      | inl below ↦ (let from = from_server in omega (arith, below, from))
+      | inr same ↦ differ same.0
+    ]
 
     pub first_for : of ≡ server → IsFirst (Waits s.keys server) (Some place)
-    first_for same =
-        (subst (λ n. Waits s.keys n place) same (set.contains-from_list waiting_total s.keys (of, place) ∙ found.1),
-         λ other waits. elim (least other waits) [
-           | inl below ↦ (let from = from_server in absurd (omega (arith, below, from)))
-           | inr h ↦ h.1
-         ])
+    first_for same = (
+      subst (λ n. Waits s.keys n place) same (set.contains-from_list waiting_total s.keys (of, place) ∙ found.1),
+      λ other waits. elim (least other waits) [
+        | inl below ↦ (let from = from_server in absurd (omega (arith, below, from)))
+        | inr h ↦ h.1
+      ],
+    )
 
 min_is : (a b : ℕ) → (min a b ≡ a) ⊎ (min a b ≡ b)
 min_is a b = grind (arith, nat_tests)
@@ -82,9 +83,9 @@ module _ {X : Type 0} (sim : SimulationV X) where
   -- what is due for one server more is due for the ones before, or waits for that one, which is up
   last_due : (n place : ℕ) → IsDue sim (n + 1) place → IsDue sim n place ⊎ Own n place
   last_due n place due = elim (number_or_apart due.server n) [
-      | inl same ↦ inr (subst (λ s. is_up sim s ≡ true) same due.up, subst (λ s. set.contains sim.waiting (s, place) ≡ true) same due.waits)
-      | inr differ ↦ inl (record { server = due.server; among = (let below = due.among in omega (arith, below, differ)); up = due.up; waits = due.waits })
-    ]
+    | inl same ↦ inr (subst (λ s. is_up sim s ≡ true) same due.up, subst (λ s. set.contains sim.waiting (s, place) ≡ true) same due.waits)
+    | inr differ ↦ inl (record { server = due.server; among = (let below = due.among in omega (arith, below, differ)); up = due.up; waits = due.waits })
+  ]
 
   one_due : (n place : ℕ) → Own n place → IsDue sim (n + 1) place
   one_due n place own = record { server = n; among = omega arith; up = own.0; waits = own.1 }
@@ -98,11 +99,13 @@ module _ {X : Type 0} (sim : SimulationV X) where
   due_more n None None all mine = λ place due. elim (last_due n place due) [ inl d ↦ all place d | inr h ↦ mine place h ]
   due_more n None (Some own) all mine = (one_due n own mine.0, λ place due. elim (last_due n place due) [ inl d ↦ absurd (all place d) | inr h ↦ mine.1 place h ])
   due_more n (Some first) None all mine = (more_due n first all.0, λ place due. elim (last_due n place due) [ inl d ↦ all.1 place d | inr h ↦ absurd (mine place h) ])
-  due_more n (Some first) (Some own) all mine =
-      (least_due n first own all.0 mine.0 (min_is first own), λ place due. elim (last_due n place due) [
-        | inl d ↦ (let e = all.1 place d in omega (arith, e))
-        | inr h ↦ (let e = mine.1 place h in omega (arith, e))
-      ])
+  due_more n (Some first) (Some own) all mine = (
+    least_due n first own all.0 mine.0 (min_is first own),
+    λ place due. elim (last_due n place due) [
+      | inl d ↦ (let e = all.1 place d in omega (arith, e))
+      | inr h ↦ (let e = mine.1 place h in omega (arith, e))
+    ],
+  )
 
 -- all servers were looked at
 pub all_due : {X : Type 0} (was old : SimulationV X) (n : ℕ) (first : Option ℕ) → was ≡ old → n ≤ was.setup.servers → was.setup.servers ≤ n → IsFirst (IsDue old n) first → IsFirst (IsDue old old.setup.servers) first

@@ -1,6 +1,5 @@
 -- What an opening finds on a disk that a run left.
-use Rattle.std.proofs.Common.{◌≡◌, ◌∙◌, sym, ap, subst, refl, ℕ, Bool, true, false, cond, List, [], ◌∷◌, ◌++◌, length, Option, Some, None, inl, inr, is_some, unwrap_or}
-use Rattle.std.specs.Prelude.{◌⊎◌}
+use Rattle.std.proofs.Common.{◌≡◌, ◌∙◌, sym, ap, subst, refl, ℕ, Bool, true, false, cond, List, [], ◌∷◌, ◌++◌, Option, Some, None, inl, inr, is_some, unwrap_or}
 use Rattle.std.specs.Prelude.{map as list_map}
 use Rattle.std.proofs.Math.Seq.{take-length}
 use Rattle.mds_base.specs.declared.setup.Setup.{Setup}

@@ -1,5 +1,5 @@
 -- The numbers of a simulation in which nothing happened yet are within their ranges.
-use Rattle.std.proofs.Common.{◌≡◌, ◌∙◌, sym, ap, subst, refl, ℕ, zero, suc, ◌+◌, ◌≤◌, List, [], ◌∷◌, length, Some, arith}
+use Rattle.std.proofs.Common.{◌≡◌, ◌∙◌, sym, ap, subst, refl, ℕ, zero, suc, ◌+◌, List, [], length, Some, arith}
 use Rattle.std.specs.Prelude.{map as list_map}
 use Rattle.std.specs.List.{slice_get, range_with_len}
 use Rattle.std.proofs.lemmas.List.FromFn.{length-map-range_with_len}
@@ -8,7 +8,6 @@ use Rattle.mds_out.specs.Disk.{Image, Contents}
 use Rattle.mds_out.specs.Fused.{Fused}
 use Rattle.client_core.specs.Clients.{ClientV, new_client}
 use Rattle.node_store.specs.Store.{Store}
-use Rattle.world.specs.Lists.{Each}
 use Rattle.world.proofs.Grow.{within}
 use Rattle.world.proofs.Starts.{get_below}
 use Rattle.simulation.specs.Openings.{Paired, IsUpOn}

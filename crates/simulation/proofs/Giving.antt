@@ -1,14 +1,13 @@
 -- The disks of servers are taken out, one after another.
-use Rattle.std.proofs.Common.{◌≡◌, ◌∙◌, sym, ap, subst, refl, ℕ, zero, suc, ◌+◌, List, [], ◌∷◌, ◌++◌, length, Some, append_assoc, append-nil, arith}
+use Rattle.std.proofs.Common.{◌≡◌, ◌∙◌, sym, ap, subst, refl, ℕ, ◌+◌, List, [], ◌∷◌, ◌++◌, length, Some, append_assoc, append-nil, arith}
 use Rattle.mds_out.specs.Disk.{Image, Contents}
 use Rattle.mds_out.specs.Fused.{Fused}
 use Rattle.mds_out.specs.Known.{OnTold}
 use Rattle.mds_base.specs.declared.setup.Setup.{Setup}
 use Rattle.node_core.specs.Nodes.{StoreV}
 use Rattle.node_store.specs.Store.{Store, KeepsStore}
-use Rattle.simulation.specs.Fuses.{seen_by, images_by}
 use Rattle.simulation.specs.Openings.{Paired, IsDiskOf, IsUpOn, IsHandedBack}
-use Rattle.simulation.proofs.Pairs.{paired_push, paired_join, paired_length}
+use Rattle.simulation.proofs.Pairs.{paired_push, paired_length}
 
 -- what is said of the disk that a server gives back
 pub disk_of : {D : Type 0} (seen : D → Contents) (images : D → Image → Type 0) (store : Store (Fused D)) (fuse : Fused D) (disk : D) → fuse ≡ store.disk → disk ≡ fuse.inner

@@ -1,5 +1,5 @@
 -- From what a Serve on a disk gave to what that of the simulation says.
-use Rattle.std.proofs.Common.{◌≡◌, ◌≢◌, ◌∙◌, sym, ap, subst, refl, ℕ, zero, suc, ◌+◌, ◌<◌, ◌≤◌, ◌^◌, Bool, true, false, is_some, List, [], ◌∷◌, ◌++◌, length, get_or, Option, Some, None, inl, inr, arith}
+use Rattle.std.proofs.Common.{◌≡◌, ◌≢◌, ◌∙◌, sym, ap, subst, refl, ℕ, ◌+◌, ◌<◌, ◌≤◌, true, List, [], ◌∷◌, ◌++◌, length, get_or, Some, None, inl, inr, arith}
 use Rattle.std.specs.Prelude.{slice_set, ◌⊎◌}
 use Rattle.std.specs.List.{slice_get}
 use Rattle.std.specs.FinSet as set
@@ -11,25 +11,24 @@ use Rattle.records.specs.declared.handled.Handled.{Handled}
 use Rattle.records.specs.declared.msg.Msg.{Msg}
 use Rattle.records.specs.declared.record.Record.{Record}
 use Rattle.client_core.specs.Clients.{ClientV}
-use Rattle.node_core.specs.Nodes.{StoreV, has_numbers}
+use Rattle.node_core.specs.Nodes.{StoreV}
 use Rattle.node_core.specs.Serving.{serve}
-use Rattle.node_store.specs.Serve.{IsMessage, IsOneMessage, HasServed, HasStopped}
-use Rattle.node_store.specs.Store.{Store, IsDownAt}
+use Rattle.node_store.specs.Serve.{IsOneMessage, HasServed, HasStopped}
+use Rattle.node_store.specs.Store.{Store}
 use Rattle.world.specs.declared.event.Event.TheVariants.{Serve}
 use Rattle.world.specs.declared.event.ServeEnd.TheVariants as ends
-use Rattle.world.specs.Lists.{Each}
 use Rattle.world.proofs.Grow.{set_same, within}
 use Rattle.simulation.specs.declared.made.Made.{Made}
 use Rattle.simulation.specs.declared.servers.Served.{Served}
 use Rattle.simulation.specs.declared.servers.Served.TheVariants as serves
 use Rattle.simulation.specs.Calls.{CanServe, Serves, RepliesTo, faults_of, faults_at}
 use Rattle.simulation.specs.Entries.{changes_of, lookup_of, with_one, ended_by}
-use Rattle.simulation.specs.Ranges.{IsSent, AreRanges}
+use Rattle.simulation.specs.Ranges.{AreRanges}
 use Rattle.simulation.specs.Shows.{SimulationV, Happens, StaysNear, waiting_cmp, server_for, is_up, has_numbers_at}
-use Rattle.simulation.proofs.Changing.{StaysTold, IsFor, IsUpStore, is_for, message_made, ranged_store, ranged_more, sent_served, some_same, told_stays, up_store, others_stay, rose_at}
+use Rattle.simulation.proofs.Changing.{StaysTold, is_for, message_made, some_same, told_stays, up_store, others_stay, rose_at}
 use Rattle.simulation.proofs.Serving.{IsToServe, IsServedStore, IsStoppedStore, served_by, stopped_by, serve_happens, stop_happens, replies_to}
 use Rattle.simulation.proofs.Showing.{happens_from, stays_near}
-use Rattle.simulation.proofs.Standing.{IsUpWith, up_with, numbers_with}
+use Rattle.simulation.proofs.Standing.{up_with, numbers_with}
 use Rattle.simulation.proofs.Stopping.{near_after}
 
 -- What a Serve comes upon
@@ -104,7 +103,7 @@ module _ {X : Type 0} (seen : X → Contents) (images : X → Image → Type 0) 
       → StaysNear seen images old (with_served was was.count (slice_set was.stores server new) was.sent was.waiting was.made)
   serve_unsent records outputs served kept sent =
       near_after seen images old (served_by was server place new s.msg records outputs) (with_served was was.count (slice_set was.stores server new) was.sent was.waiting was.made) (Serve server (place ∷ []) ends.Done) (ap (λ (v : SimulationV X). v.setup) same) refl
-        (happens_from seen images was old _ (Serve server (place ∷ []) ends.Done) same (serve_happens seen images was server place store new s.up s.msg s.to records outputs served kept sent))
+      (happens_from seen images was old _ (Serve server (place ∷ []) ends.Done) same (serve_happens seen images was server place store new s.up s.msg s.to records outputs served kept sent))
 
   -- it stopped
   pub serve_stopped : (waiting' : set.FinSet waiting_cmp) → IsStoppedStore seen images store new s.up (serve s.up s.msg was.moment).records → waiting' ≡ set.remove was.waiting (server, place)
@@ -126,10 +125,10 @@ module _ {X : Type 0} (seen : X → Contents) (images : X → Image → Type 0) 
       → StaysNear seen images old (with_served was was.count (slice_set was.stores server new) was.sent was.waiting was.made)
   serve_refused told stays (inl same') =
       stays_near seen images old (with_served was was.count (slice_set was.stores server new) was.sent was.waiting was.made)
-        (ap (slice_set was.stores server) same' ∙ set_same was.stores server store s.to.is ∙ ap (λ (v : SimulationV X). v.stores) same)
+      (ap (slice_set was.stores server) same' ∙ set_same was.stores server store s.to.is ∙ ap (λ (v : SimulationV X). v.stores) same)
   serve_refused told stays (inr h) =
       near_after seen images old (stopped_by was server place new) (with_served was was.count (slice_set was.stores server new) was.sent was.waiting was.made) (Serve server (place ∷ []) ends.Stop) (ap (λ (v : SimulationV X). v.setup) same) refl
-        (happens_from seen images was old _ (Serve server (place ∷ []) ends.Stop) same (stop_happens seen images was server place store new s.up s.msg s.to (stopped_from _ told stays h)))
+      (happens_from seen images was old _ (Serve server (place ∷ []) ends.Stop) same (stop_happens seen images was server place store new s.up s.msg s.to (stopped_from _ told stays h)))
 
 -- What a Serve says that was done
 
@@ -149,8 +148,8 @@ serves_done {X = X} seen images was old new server place store outputs served sa
     let one : server ≡ other = some_same server other (sym s.to.meant ∙ sym (ap server_for there) ∙ meant) in
     let stands : new.sent ≡ old.sent ++ outputs = sent ∙ ap (λ (v : SimulationV X). v.sent ++ outputs) same in
     subst (λ k. Serves seen images old new k place served) one
-      (ended_serves seen images old new server place outputs served happens stands (is ∙ ap (λ (v : SimulationV X). ended_by outputs (length v.sent)) same)
-        (λ first more e. replies_to old new place s.up s.msg was.moment first more there (sym gave ∙ e) (stands ∙ ap (λ o. old.sent ++ o) e)))
+    (ended_serves seen images old new server place outputs served happens stands (is ∙ ap (λ (v : SimulationV X). ended_by outputs (length v.sent)) same)
+    (λ first more e. replies_to old new place s.up s.msg was.moment first more there (sym gave ∙ e) (stands ∙ ap (λ o. old.sent ++ o) e)))
 
 -- the server of the message is the one that serves it
 pub meant_for : {X : Type 0} (was old : SimulationV X) (server place : ℕ) (store : Store X) → was ≡ old → IsServing was server place store → (other : ℕ) → server_for (slice_get old.sent place) ≡ Some other → server ≡ other

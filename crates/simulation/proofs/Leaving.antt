@@ -1,7 +1,6 @@
 -- The disks that are handed back at the end are such as a run leaves that ends with these servers.
-use Rattle.std.proofs.Common.{◌≡◌, ◌∙◌, sym, ap, subst, refl, ℕ, zero, suc, ◌+◌, ◌<◌, Bool, true, false, List, [], ◌∷◌, ◌++◌, length, Option, Some, None, is_some, inl, inr, arith}
+use Rattle.std.proofs.Common.{◌≡◌, ◌∙◌, sym, ap, subst, refl, ℕ, ◌+◌, Bool, true, false, List, [], ◌∷◌, ◌++◌, length, Option, Some, None, is_some, inl, inr, arith}
 use Rattle.std.specs.Prelude.{map as list_map}
-use Rattle.std.specs.List.{slice_get}
 use Rattle.mds_base.specs.declared.setup.Setup.{Setup}
 use Rattle.mds_base.specs.declared.store_fault.StoreFault.{StoreFault}
 use Rattle.mds_base.specs.declared.store_fault.StoreFault.TheVariants.{Device, Stopped, Damaged, Room, OutOfMemory}
@@ -15,7 +14,7 @@ use Rattle.node_core.specs.Nodes.{StoreV}
 use Rattle.node_core.specs.Serving.{replayed_all}
 use Rattle.node_store.specs.Damage.{IsDamaged}
 use Rattle.node_store.specs.Stands.{FileStandsFor, all_follow, StandFor, opened_store}
-use Rattle.node_store.specs.Store.{Store, HasDoubt, LeavesDoubt, KeepsStore, IsDownAt, KeepsAny, StandsForAny}
+use Rattle.node_store.specs.Store.{Store, HasDoubt, LeavesDoubt, KeepsStore, KeepsAny, StandsForAny}
 use Rattle.node_store.proofs.Standing.{stand_more}
 use Rattle.world.specs.declared.state.ServerState.{ServerState}
 use Rattle.world.specs.Law.{PastRun, new_servers}

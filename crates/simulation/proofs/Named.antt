@@ -1,7 +1,7 @@
 -- Which messages were named, and which wait.
-use Rattle.std.proofs.Common.{◌≡◌, ◌∙◌, sym, ap, subst, refl, ℕ, zero, suc, ◌+◌, ◌<◌, ◌==◌, ◌&&◌, Bool, true, false, not, List, [], ◌∷◌, ◌++◌, length, Option, Some, None, inl, inr, arith}
-use Rattle.std.specs.Prelude.{◌||◌, ◌⊎◌}
-use Rattle.std.specs.List.{slice_get, list_any}
+use Rattle.std.proofs.Common.{◌≡◌, ◌∙◌, sym, ap, subst, refl, ℕ, zero, suc, ◌<◌, ◌==◌, ◌&&◌, Bool, true, false, not, List, [], ◌∷◌, ◌++◌, length, Some, None, inl, inr, arith}
+use Rattle.std.specs.Prelude.{◌||◌}
+use Rattle.std.specs.List.{slice_get}
 use Rattle.std.specs.FinSet as set
 use Rattle.std.proofs.lemmas.Bool.Decides.{nat_tests}
 use Rattle.std.proofs.lemmas.List.{length-append}
@@ -25,9 +25,9 @@ named_same events event place e = list_any-append (names place) events (event �
 
 pub not_named : (events : List Event) (place : ℕ) → (is_named events place ≡ true → ⊥) → is_named events place ≡ false
 not_named events place none = elim (is_named events place) as (λ b. is_named events place ≡ b → b ≡ false) [
-    | true ↦ λ e. absurd (none e)
-    | false ↦ λ _. refl
-  ] refl
+  | true ↦ λ e. absurd (none e)
+  | false ↦ λ _. refl
+] refl
 
 pub for_server : (s server : ℕ) (msg : Msg) → server_for (Some msg) ≡ Some server → is_for_server s (Some msg) ≡ (server == s)
 for_server s server (Request to ask cursor) e = let h : to ≡ server = cc in ap (λ n. n == s) h
@@ -80,8 +80,8 @@ module _ (waiting : set.FinSet waiting_cmp) (sent : List Msg) (events : List Eve
   await_end event msg server unnamed is s =
       one_waits s server (server == s) refl ∙ and_true (server == s)
       ∙ sym (ap (λ o. is_for_server s o && not (is_named (events ++ event ∷ []) (length sent))) (get_last sent msg)
-        ∙ ap (λ b. b && not (is_named (events ++ event ∷ []) (length sent))) (for_server s server msg is)
-        ∙ ap (λ b. (server == s) && not b) (named_same events event (length sent) unnamed ∙ past_end))
+      ∙ ap (λ b. b && not (is_named (events ++ event ∷ []) (length sent))) (for_server s server msg is)
+      ∙ ap (λ b. (server == s) && not b) (named_same events event (length sent) unnamed ∙ past_end))
     where
       and_true : (b : Bool) → b ≡ (b && true)
       and_true true = refl
@@ -91,13 +91,13 @@ module _ (waiting : set.FinSet waiting_cmp) (sent : List Msg) (events : List Eve
   pub await_more : (event : Event) (msg : Msg) (server : ℕ) → ((k : ℕ) → names k event ≡ false) → server_for (Some msg) ≡ Some server
       → Await (set.insert waiting (server, length sent)) (sent ++ msg ∷ []) (events ++ event ∷ [])
   await_more event msg server unnamed is s k = elim (number_or_apart k (length sent)) [
-      | inl same ↦ subst (λ n. set.contains (set.insert waiting (server, length sent)) (s, n) ≡ (is_for_server s (slice_get (sent ++ msg ∷ []) n) && not (is_named (events ++ event ∷ []) n))) (sym same)
-          (await_end event msg server (unnamed (length sent)) is s)
-      | inr differ ↦ insert_apart waiting_total exact_waiting waiting (server, length sent) (s, k) (λ same. differ (ap (λ (p : ℕ × ℕ). p.1) same))
-          ∙ await s k
-          ∙ ap (λ o. is_for_server s o && not (is_named events k)) (sym (get_other sent msg k differ))
-          ∙ ap (λ b. is_for_server s (slice_get (sent ++ msg ∷ []) k) && not b) (sym (named_same events event k (unnamed k)))
-    ]
+    | inl same ↦ subst (λ n. set.contains (set.insert waiting (server, length sent)) (s, n) ≡ (is_for_server s (slice_get (sent ++ msg ∷ []) n) && not (is_named (events ++ event ∷ []) n))) (sym same)
+        (await_end event msg server (unnamed (length sent)) is s)
+    | inr differ ↦ insert_apart waiting_total exact_waiting waiting (server, length sent) (s, k) (λ same. differ (ap (λ (p : ℕ × ℕ). p.1) same))
+        ∙ await s k
+        ∙ ap (λ o. is_for_server s o && not (is_named events k)) (sym (get_other sent msg k differ))
+        ∙ ap (λ b. is_for_server s (slice_get (sent ++ msg ∷ []) k) && not b) (sym (named_same events event k (unnamed k)))
+  ]
 
   -- no message more
   pub await_same : (event : Event) → ((k : ℕ) → names k event ≡ false) → Await waiting sent (events ++ event ∷ [])

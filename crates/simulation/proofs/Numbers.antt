@@ -1,10 +1,9 @@
 -- A server that is up, and the directory numbers that it has left.
-use Rattle.std.proofs.Common.{◌≡◌, ◌∙◌, sym, ap, subst, refl, ℕ, ◌+◌, ◌*◌, ◌-◌, ◌<◌, ◌≤◌, ◌^◌, Bool, true, false, is_some, Option, Some, None, arith}
+use Rattle.std.proofs.Common.{◌≡◌, ◌∙◌, sym, ap, subst, refl, ℕ, ◌+◌, ◌*◌, ◌-◌, ◌^◌, true, is_some, Option, Some, None, arith}
 use Rattle.std.specs.Prelude.{nat_le}
 use Rattle.std.specs.List.{slice_get}
 use Rattle.std.proofs.lemmas.Bool.Decides.{nat_tests}
 use Rattle.node_core.specs.Nodes.{NodeV, StoreV, has_numbers}
-use Rattle.node_store.specs.Parts.{IsNodeOf}
 use Rattle.node_store.specs.Store.{Store}
 use Rattle.simulation.specs.Shows.{SimulationV, is_up, store_is_up, up_has_numbers, store_has_numbers, has_numbers_at}
 

@@ -1,5 +1,5 @@
 -- What bringing up one server says of its disk.
-use Rattle.std.proofs.Common.{◌≡◌, sym, ap, subst, refl, ℕ, ◌≤◌, true, false, List, [], ◌++◌, Option, Some, None, is_some}
+use Rattle.std.proofs.Common.{◌≡◌, sym, subst, refl, ℕ, ◌≤◌, true, false, List, [], ◌++◌, Option, Some, None, is_some}
 use Rattle.std.specs.Prelude.{map as list_map}
 use Rattle.mds_base.specs.declared.setup.Setup.{Setup}
 use Rattle.mds_base.specs.declared.store_fault.StoreFault.{StoreFault}

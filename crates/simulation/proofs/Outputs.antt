@@ -1,5 +1,5 @@
 -- What serving a message sends, and the entry that it makes.
-use Rattle.std.proofs.Common.{◌≡◌, ◌∙◌, sym, ap, subst, refl, ℕ, zero, suc, ◌+◌, ◌==◌, Bool, true, false, cond, List, [], ◌∷◌, ◌++◌, length, Option, Some, None}
+use Rattle.std.proofs.Common.{◌≡◌, ◌∙◌, sym, ap, refl, ℕ, zero, suc, ◌==◌, Bool, true, false, cond, List, [], ◌∷◌, ◌++◌, Some, None}
 use Rattle.std.specs.Prelude.{map as list_map}
 use Rattle.std.specs.List.{slice_get}
 use Rattle.std.proofs.lemmas.List.{append-nil, map-append}
@@ -13,16 +13,14 @@ use Rattle.records.specs.declared.msg.Msg.{Msg}
 use Rattle.records.specs.declared.msg.Msg.TheVariants.{Request, Redirect, Answer, Busy, Held, Transfer, Installed}
 use Rattle.sessions.specs.declared.kept.Judged.{Judged}
 use Rattle.sessions.specs.declared.kept.Judged.TheVariants.{New, Again, Old}
-use Rattle.sessions.specs.Kept.{judge_kept}
-use Rattle.node_core.specs.Nodes.{StoreV, part_for, owns, row_in, session_in}
-use Rattle.node_core.specs.Rules.{Outcome, Silent, Looks, Repeats, Carries, outcome, outcome_of, asked_of, by_judged, found, said_in}
+use Rattle.node_core.specs.Nodes.{StoreV}
+use Rattle.node_core.specs.Rules.{Outcome, Silent, Looks, Repeats, Carries, outcome, by_judged}
 use Rattle.node_core.specs.Serving.{serve, served_as, answer_to}
 use Rattle.world.specs.Events.{is_for_server, is_for_client}
 use Rattle.world.specs.Histories as past
 use Rattle.world.specs.Histories.{History, served_one}
 use Rattle.simulation.specs.declared.made.Made.{Made}
-use Rattle.simulation.specs.declared.servers.Served.TheVariants as ends
-use Rattle.simulation.specs.Entries.{changes_of, looked, looked_by, lookup_of, with_one, ended_by}
+use Rattle.simulation.specs.Entries.{changes_of, looked, looked_by, lookup_of, with_one}
 use Rattle.simulation.specs.Shows.{made_of, is_request_of}
 
 -- no server is sent anything

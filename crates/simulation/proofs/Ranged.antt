@@ -1,5 +1,5 @@
 -- The ranges of a simulation's numbers are kept.
-use Rattle.std.proofs.Common.{◌≡◌, ◌∙◌, sym, ap, subst, refl, ℕ, zero, suc, ◌+◌, ◌<◌, ◌≤◌, ◌^◌, ◌%◌, Bool, true, false, List, [], ◌∷◌, ◌++◌, length, Option, Some, None, arith}
+use Rattle.std.proofs.Common.{◌≡◌, ◌∙◌, sym, ap, subst, refl, ℕ, ◌+◌, ◌<◌, ◌≤◌, ◌^◌, ◌%◌, Bool, true, false, List, [], ◌∷◌, ◌++◌, Option, Some, None, arith}
 use Rattle.std.specs.Prelude.{slice_set}
 use Rattle.std.specs.List.{slice_get}
 use Rattle.std.proofs.lemmas.Nat.{mod_below}
@@ -11,10 +11,9 @@ use Rattle.records.specs.declared.msg.Msg.TheVariants.{Request, Redirect, Answer
 use Rattle.bitmap.specs.Bits.{Bits}
 use Rattle.client_core.specs.declared.client.Pending.{Pending}
 use Rattle.client_core.specs.Clients.{ClientV, dir_of, target_of, issued, issue_msg, resent, resend_msg, merged, request_of}
-use Rattle.client_core.specs.Taking.{Took, take, take_at, take_pending, is_present, fits, answered_if, redirected_if, busy_if, held_if}
-use Rattle.node_store.specs.Serve.{IsAsked, IsMessage, IsWellMade}
+use Rattle.client_core.specs.Taking.{take, take_at, take_pending, answered_if, redirected_if, busy_if, held_if}
+use Rattle.node_store.specs.Serve.{IsWellMade}
 use Rattle.node_store.specs.Store.{Store}
-use Rattle.world.specs.Lists.{Each}
 use Rattle.world.proofs.Grow.{each_push, each_map, each_set, length_set, within}
 use Rattle.simulation.specs.Ranges.{IsSetup, IsOpenCall, IsOpen, IsSeat, IsSent, AreRanges}
 
@@ -85,16 +84,17 @@ module _ (setup : Setup) (count k : ℕ) (client : ClientV) (s : IsSeat setup co
 -- what a client sends is well made, and for a server that is there
 pub request_sent : (setup : Setup) (count k : ℕ) (client : ClientV) (seq attempt : ℕ) (call : Call) → IsSetup setup → k < setup.clients → IsSeat setup count k client → 1 ≤ seq → seq < 2 ^ 64 → IsWellMade call
     → IsSent setup.servers (request_of client seq attempt call)
-request_sent setup count k client seq attempt call ranges there s from below made =
-    ((let e = ap (λ (x : Setup). x.servers) s.setup' in let some = ranges.some_server in
+request_sent setup count k client seq attempt call ranges there s from below made = (
+  (let e = ap (λ (x : Setup). x.servers) s.setup' in let some = ranges.some_server in
       subst (λ n. (dir_of call + target_of client call) % n < setup.servers) (sym e) (mod_below (dir_of call + target_of client call) setup.servers (omega (arith, some)))),
-     record {
-       some_client = (let e = s.number in omega (arith, e));
-       few_clients = (let e = s.number in let few = ranges.few_clients in omega (arith, e, few, there));
-       from_one = from;
-       fits = below;
-       made = made;
-     })
+  record {
+    some_client = (let e = s.number in omega (arith, e));
+    few_clients = (let e = s.number in let few = ranges.few_clients in omega (arith, e, few, there));
+    from_one = from;
+    fits = below;
+    made = made;
+  },
+)
 
 module _ {X : Type 0} (setup : Setup) (now count : ℕ) (stores : List (Store X)) (clients : List ClientV) (sent : List Msg) (r : AreRanges setup now count stores clients sent) (room : count < 2 ^ 20) where
   -- one event more

@@ -1,5 +1,5 @@
 -- Disks that an opening handed back are still those of the past.
-use Rattle.std.proofs.Common.{◌≡◌, ◌∙◌, sym, ap, subst, refl, ℕ, ◌<◌, List, [], ◌∷◌, length, Some, arith}
+use Rattle.std.proofs.Common.{◌≡◌, ◌∙◌, ℕ, List, [], ◌∷◌, Some, arith}
 use Rattle.std.specs.List.{slice_get}
 use Rattle.mds_base.specs.declared.setup.Setup.{Setup}
 use Rattle.mds_out.specs.Disk.{Image, Contents}

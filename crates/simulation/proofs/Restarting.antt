@@ -1,8 +1,8 @@
 -- A server is restarted.
-use Rattle.std.proofs.Common.{◌≡◌, ◌∙◌, sym, ap, subst, refl, ℕ, ◌+◌, ◌<◌, ◌==◌, ◌&&◌, not, Bool, true, false, is_some, List, [], ◌∷◌, ◌++◌, length, take, Option, Some, None, inl, inr, arith, append_assoc}
-use Rattle.std.specs.Prelude.{◌||◌, ◌⊎◌, slice_set}
+use Rattle.std.proofs.Common.{◌≡◌, ◌∙◌, sym, ap, subst, refl, ℕ, ◌+◌, ◌==◌, not, Bool, true, false, is_some, List, [], ◌∷◌, ◌++◌, length, take, Option, Some, None, inl, inr, arith, append_assoc}
+use Rattle.std.specs.Prelude.{◌||◌, slice_set}
 use Rattle.std.specs.Prelude.{map as list_map}
-use Rattle.std.specs.List.{slice_get, filter_map}
+use Rattle.std.specs.List.{slice_get}
 use Rattle.std.proofs.lemmas.Bool.{and_from, and_parts}
 use Rattle.std.proofs.lemmas.Bool.Decides.{nat_tests}
 use Rattle.std.proofs.lemmas.List.{append-nil, map-append}
@@ -16,8 +16,7 @@ use Rattle.node_core.specs.Nodes.{StoreV}
 use Rattle.node_core.specs.Serving.{may_follow, replayed, replayed_all, restarted}
 use Rattle.node_store.specs.Serve.{IsAllOrNone}
 use Rattle.node_store.specs.Stands.{all_follow}
-use Rattle.node_store.specs.Store.{Store, IsDownAt, LeavesDoubt}
-use Rattle.world.specs.declared.event.Event.{Event}
+use Rattle.node_store.specs.Store.{Store}
 use Rattle.world.specs.declared.event.Event.TheVariants.{Restart, Stop}
 use Rattle.world.specs.declared.event.StopCause.TheVariants.{Device}
 use Rattle.world.specs.declared.state.ServerState.{ServerState}
@@ -28,12 +27,11 @@ use Rattle.world.specs.Histories.{History, is_taken}
 use Rattle.world.specs.Worlds.{store_of}
 use Rattle.world.proofs.Grow.{set_same}
 use Rattle.simulation.specs.Entries.{change_of, changes_of}
-use Rattle.simulation.specs.Runs.{RunV, GoesOn}
 use Rattle.simulation.specs.Stores.{IsRestarted, IsDownStill}
 use Rattle.simulation.specs.Shows.{SimulationV, Shows, Happens, StaysNear, IsServer, AreServers, made_of}
 use Rattle.simulation.proofs.Named.{await_same, still_named}
 use Rattle.simulation.proofs.Showing.{goes_on, one_longer}
-use Rattle.simulation.proofs.Standing.{IsDownAs, IsServerOf, as_down, server_of, servers_set}
+use Rattle.simulation.proofs.Standing.{IsDownAs, as_down, server_of, servers_set}
 
 -- The entries of the records that were kept
 
@@ -132,27 +130,27 @@ module _ {X : Type 0} (seen : X → Contents) (images : X → Image → Type 0) 
       let up : ServerState = up_with h.state (restarted (replayed_all (store_of h.state) (take kept h.state.doubt)) run.trace.world.now) in
       let follows = doubt_follows seen images old.setup server store new h.state h.good d in
       goes_on run (Restart server kept) (set_server run.trace.world server up)
-        (past.replayed_all run.trace.past (store_of h.state) (take kept h.state.doubt))
-        (Shows seen images (restarted_by old server new (take kept store.doubt)))
-        (ap (λ o. can_restart o kept) h.is ∙ may_restart h.state kept d.stopped (subst (λ l. IsAllOrNone kept (length l)) d.doubt s.all_or_none))
-        (ap (events.after_restart run.trace.world server kept) h.is)
-        (ap (past.after_restart run.trace.past kept) h.is)
-        (record {
-          setup = shows.setup;
-          moment = shows.moment;
-          count = one_longer run.events (Restart server kept) old.count shows.count;
-          servers = servers_set seen images old.setup old.stores run.trace.world.servers server new up shows.servers
-              (restarted_server seen images old.setup server store new h.state h.good d kept run.trace.world.now (subst (IsRestarted seen images store new kept) (sym shows.moment) s));
-          clients = shows.clients;
-          going_on = shows.going_on;
-          sent = shows.sent;
-          named = still_named old.waiting old.sent run.events shows.waiting shows.named (Restart server kept) (λ k. refl);
-          waiting = await_same old.waiting old.sent run.events shows.waiting shows.named (Restart server kept) (λ k. refl);
-          made = ap (λ l. list_map made_of (past.replayed_all run.trace.past (store_of h.state) (take kept l)).made) (sym d.doubt)
-              ∙ kept_made run.trace.past (store_of h.state) (take kept store.doubt) (kept_follow (store_of h.state) store.doubt kept s.all_or_none follows)
-              ∙ ap (λ l. l ++ changes_of (take kept store.doubt)) shows.made;
-          taken = λ q. shows.taken q ∙ sym (ap (λ a. is_taken a q) (kept_answered run.trace.past (store_of h.state) (take kept h.state.doubt)));
-        })
+      (past.replayed_all run.trace.past (store_of h.state) (take kept h.state.doubt))
+      (Shows seen images (restarted_by old server new (take kept store.doubt)))
+      (ap (λ o. can_restart o kept) h.is ∙ may_restart h.state kept d.stopped (subst (λ l. IsAllOrNone kept (length l)) d.doubt s.all_or_none))
+      (ap (events.after_restart run.trace.world server kept) h.is)
+      (ap (past.after_restart run.trace.past kept) h.is)
+      (record {
+        setup = shows.setup;
+        moment = shows.moment;
+        count = one_longer run.events (Restart server kept) old.count shows.count;
+        servers = servers_set seen images old.setup old.stores run.trace.world.servers server new up shows.servers
+            (restarted_server seen images old.setup server store new h.state h.good d kept run.trace.world.now (subst (IsRestarted seen images store new kept) (sym shows.moment) s));
+        clients = shows.clients;
+        going_on = shows.going_on;
+        sent = shows.sent;
+        named = still_named old.waiting old.sent run.events shows.waiting shows.named (Restart server kept) (λ k. refl);
+        waiting = await_same old.waiting old.sent run.events shows.waiting shows.named (Restart server kept) (λ k. refl);
+        made = ap (λ l. list_map made_of (past.replayed_all run.trace.past (store_of h.state) (take kept l)).made) (sym d.doubt)
+            ∙ kept_made run.trace.past (store_of h.state) (take kept store.doubt) (kept_follow (store_of h.state) store.doubt kept s.all_or_none follows)
+            ∙ ap (λ l. l ++ changes_of (take kept store.doubt)) shows.made;
+        taken = λ q. shows.taken q ∙ sym (ap (λ a. is_taken a q) (kept_answered run.trace.past (store_of h.state) (take kept h.state.doubt)));
+      })
 
   pub fail_happens : IsDownStill seen images store new → Happens seen images old (failed_by old server new) (Stop server Device)
   fail_happens s run shows =
@@ -160,22 +158,22 @@ module _ {X : Type 0} (seen : X → Contents) (images : X → Image → Type 0) 
       let d = as_down seen images old.setup server store h.state h.good is_down in
       let left : ServerState = record { node = h.state.node; rows = h.state.rows; up = false; doubt = h.state.doubt } in
       goes_on run (Stop server Device) (set_server run.trace.world server left) run.trace.past (Shows seen images (failed_by old server new))
-        (ap events.is_there h.is)
-        (ap (events.after_stop run.trace.world server) h.is)
-        refl
-        (record {
-          setup = shows.setup;
-          moment = shows.moment;
-          count = one_longer run.events (Stop server Device) old.count shows.count;
-          servers = servers_set seen images old.setup old.stores run.trace.world.servers server new left shows.servers (down_server seen images old.setup server store new h.state h.good d s);
-          clients = shows.clients;
-          going_on = shows.going_on;
-          sent = shows.sent;
-          named = still_named old.waiting old.sent run.events shows.waiting shows.named (Stop server Device) (λ k. refl);
-          waiting = await_same old.waiting old.sent run.events shows.waiting shows.named (Stop server Device) (λ k. refl);
-          made = shows.made;
-          taken = shows.taken;
-        })
+      (ap events.is_there h.is)
+      (ap (events.after_stop run.trace.world server) h.is)
+      refl
+      (record {
+        setup = shows.setup;
+        moment = shows.moment;
+        count = one_longer run.events (Stop server Device) old.count shows.count;
+        servers = servers_set seen images old.setup old.stores run.trace.world.servers server new left shows.servers (down_server seen images old.setup server store new h.state h.good d s);
+        clients = shows.clients;
+        going_on = shows.going_on;
+        sent = shows.sent;
+        named = still_named old.waiting old.sent run.events shows.waiting shows.named (Stop server Device) (λ k. refl);
+        waiting = await_same old.waiting old.sent run.events shows.waiting shows.named (Stop server Device) (λ k. refl);
+        made = shows.made;
+        taken = shows.taken;
+      })
 
   -- a refused restart leaves the servers those of the run
   pub refused_near : (last : SimulationV X) → last.stores ≡ slice_set old.stores server new → IsDownStill seen images store new → StaysNear seen images old last
@@ -185,5 +183,5 @@ module _ {X : Type 0} (seen : X → Contents) (images : X → Image → Type 0) 
       let left : ServerState = record { node = h.state.node; rows = h.state.rows; up = false; doubt = h.state.doubt } in
       let same : left ≡ h.state = ap (λ b. let r : ServerState = record { node = h.state.node; rows = h.state.rows; up = b; doubt = h.state.doubt } in r) (sym d.stopped) in
       inl (subst (λ l. AreServers seen images old.setup l run.trace.world.servers) (sym stores)
-        (subst (AreServers seen images old.setup (slice_set old.stores server new)) (ap (slice_set run.trace.world.servers server) same ∙ set_same run.trace.world.servers server h.state h.is)
-          (servers_set seen images old.setup old.stores run.trace.world.servers server new left shows.servers (down_server seen images old.setup server store new h.state h.good d s))))
+      (subst (AreServers seen images old.setup (slice_set old.stores server new)) (ap (slice_set run.trace.world.servers server) same ∙ set_same run.trace.world.servers server h.state h.is)
+      (servers_set seen images old.setup old.stores run.trace.world.servers server new left shows.servers (down_server seen images old.setup server store new h.state h.good d s))))

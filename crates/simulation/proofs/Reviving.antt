@@ -1,11 +1,10 @@
 -- From what a restart on a disk gave to what that of the simulation says.
-use Rattle.std.proofs.Common.{◌≡◌, ◌≢◌, ◌∙◌, sym, ap, subst, refl, ℕ, ◌+◌, ◌<◌, ◌≤◌, Bool, true, false, is_some, List, [], ◌∷◌, ◌++◌, length, take, get_or, Option, Some, None, inl, inr, arith}
-use Rattle.std.specs.Prelude.{slice_set, ◌⊎◌}
+use Rattle.std.proofs.Common.{◌≡◌, ◌≢◌, ◌∙◌, sym, ap, subst, refl, ℕ, ◌+◌, ◌<◌, true, is_some, List, ◌++◌, length, take, get_or, Option, Some, None}
+use Rattle.std.specs.Prelude.{slice_set}
 use Rattle.std.specs.List.{slice_get}
 use Rattle.mds_base.specs.declared.store_fault.StoreFault.{StoreFault}
 use Rattle.mds_base.specs.declared.store_fault.StoreFault.TheVariants as faults
 use Rattle.mds_out.specs.Disk.{Image, Contents}
-use Rattle.mds_out.specs.Fault.{Rose}
 use Rattle.mds_out.specs.Fused.{Fused, fused_faults}
 use Rattle.mds_out.specs.Known.{OnTold}
 use Rattle.records.specs.declared.record.Record.{Record}
@@ -18,16 +17,14 @@ use Rattle.world.specs.declared.event.Event.TheVariants.{Restart, Stop}
 use Rattle.world.specs.declared.event.StopCause.TheVariants.{Device}
 use Rattle.world.specs.Worlds.{store_of}
 use Rattle.simulation.specs.declared.made.Made.{Made}
-use Rattle.simulation.specs.declared.servers.Restarted.TheVariants as ends
-use Rattle.simulation.specs.Calls.{Restarts}
 use Rattle.simulation.specs.Entries.{changes_of}
 use Rattle.simulation.specs.Fuses.{seen_by, images_by}
 use Rattle.simulation.specs.Runs.{RunV, GoesOn}
 use Rattle.simulation.specs.Shows.{SimulationV, Shows, Happens, StaysNear, is_up}
-use Rattle.simulation.specs.Stores.{IsDownStill, IsRestarted, IsRevived}
+use Rattle.simulation.specs.Stores.{IsDownStill, IsRevived}
 use Rattle.simulation.proofs.Arming.{store_at}
-use Rattle.simulation.proofs.Changing.{StaysTold, down_store, told_stays}
-use Rattle.simulation.proofs.Restarting.{take_all, restarted_by, failed_by, restart_happens, fail_happens, refused_near}
+use Rattle.simulation.proofs.Changing.{down_store}
+use Rattle.simulation.proofs.Restarting.{restarted_by, restart_happens, fail_happens, refused_near}
 use Rattle.simulation.proofs.Showing.{happens_from}
 use Rattle.simulation.proofs.Standing.{as_down, server_of}
 use Rattle.simulation.proofs.Stopping.{near_after}
@@ -103,13 +100,13 @@ module _ {X : Type 0} (seen : X → Contents) (images : X → Image → Type 0) 
       → (run : RunV) → Shows seen images old run → (kept : ℕ) × GoesOn run (Restart server kept) (Shows seen images (with_restarted was (was.count + 1) (slice_set was.stores server new) made'))
   revive_done made made' r grew =
       subst (λ m. (run : RunV) → Shows seen images old run → (kept : ℕ) × GoesOn run (Restart server kept) (Shows seen images (with_restarted was (was.count + 1) (slice_set was.stores server new) m))) (sym (grew ∙ ap (λ l. was.made ++ l) r.entries))
-        (λ run shows. (r.kept, happens_from seen images was old _ (Restart server r.kept) same (restart_happens seen images was server store new s.is s.down r.kept r.restarted') run shows))
+      (λ run shows. (r.kept, happens_from seen images was old _ (Restart server r.kept) same (restart_happens seen images was server store new s.is s.down r.kept r.restarted') run shows))
 
   -- there was no memory for the entries
   pub revive_unmade : (made : List Made) → IsRevived seen images store new was.moment made → StaysNear seen images old (with_restarted was was.count (slice_set was.stores server new) was.made)
   revive_unmade made r =
       near_after seen images old (restarted_by was server new (take r.kept store.doubt)) (with_restarted was was.count (slice_set was.stores server new) was.made) (Restart server r.kept) (ap (λ (v : SimulationV X). v.setup) same) refl
-        (happens_from seen images was old _ (Restart server r.kept) same (restart_happens seen images was server store new s.is s.down r.kept r.restarted'))
+      (happens_from seen images was old _ (Restart server r.kept) same (restart_happens seen images was server store new s.is s.down r.kept r.restarted'))
 
   pub revive_failed : IsDownStill seen images store new → Happens seen images old (with_restarted was (was.count + 1) (slice_set was.stores server new) was.made) (Stop server Device)
   revive_failed still = happens_from seen images was old _ (Stop server Device) same (fail_happens seen images was server store new s.is s.down still)
@@ -117,7 +114,7 @@ module _ {X : Type 0} (seen : X → Contents) (images : X → Image → Type 0) 
   pub revive_refused : IsDownStill seen images store new → StaysNear seen images old (with_restarted was was.count (slice_set was.stores server new) was.made)
   revive_refused still =
       subst (λ (v : SimulationV X). StaysNear seen images v (with_restarted was was.count (slice_set was.stores server new) was.made)) same
-        (refused_near seen images was server store new s.is s.down (with_restarted was was.count (slice_set was.stores server new) was.made) refl still)
+      (refused_near seen images was server store new s.is s.down (with_restarted was was.count (slice_set was.stores server new) was.made) refl still)
 
   only_memory : (seen' : Option (List ℕ)) (fault : StoreFault) → is_some seen' ≡ true → IsRefusal (λ _ _ _. ⊥) seen' fault → (fault ≡ faults.Device → ⊥) → fault ≡ faults.OutOfMemory
   only_memory seen' faults.Device told r apart = absurd (apart refl)

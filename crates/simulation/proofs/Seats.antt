@@ -1,11 +1,11 @@
 -- The clients of a world and those of a simulation.
-use Rattle.std.proofs.Common.{◌≡◌, ◌∙◌, sym, ap, refl, ℕ, zero, suc, ◌-◌, List, [], ◌∷◌, Some, None, Option, arith}
+use Rattle.std.proofs.Common.{◌≡◌, ap, refl, ℕ, zero, suc, ◌-◌, List, [], ◌∷◌, Some, Option, arith}
 use Rattle.std.specs.Prelude.{slice_set}
 use Rattle.std.specs.Prelude.{map as list_map}
 use Rattle.std.specs.List.{slice_get}
 use Rattle.client_core.specs.Clients.{ClientV}
 use Rattle.world.specs.declared.state.ClientState.{ClientState}
-use Rattle.world.specs.Events.{seat_at, index_of, with_client}
+use Rattle.world.specs.Events.{seat_at, index_of}
 use Rattle.simulation.specs.Shows.{client_at}
 
 abbrev pub clients_of : List ClientState → List ClientV

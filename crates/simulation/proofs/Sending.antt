@@ -1,8 +1,7 @@
 -- A client sends its call, for the first time or again.
-use Rattle.std.proofs.Common.{◌≡◌, ◌∙◌, sym, ap, subst, refl, ℕ, suc, ◌+◌, ◌<◌, ◌≤◌, ◌^◌, ◌&&◌, not, Bool, true, false, is_some, List, [], ◌∷◌, ◌++◌, length, Option, Some, None, arith}
+use Rattle.std.proofs.Common.{◌≡◌, ◌∙◌, sym, ap, subst, refl, ℕ, ◌+◌, ◌<◌, ◌^◌, not, true, false, [], ◌∷◌, ◌++◌, length, Option, Some, None, arith}
 use Rattle.std.specs.Prelude.{nat_lt, slice_set}
 use Rattle.std.specs.Prelude.{map as list_map}
-use Rattle.std.specs.List.{slice_get}
 use Rattle.std.specs.FinSet as set
 use Rattle.std.proofs.lemmas.Bool.{and_from}
 use Rattle.std.proofs.lemmas.Bool.Decides.{nat_tests}
@@ -23,7 +22,7 @@ use Rattle.simulation.specs.Runs.{RunV, GoesOn, names}
 use Rattle.simulation.specs.Shows.{SimulationV, Shows, Happens, client_at, server_for, made_of}
 use Rattle.simulation.specs.Calls.{awaiting}
 use Rattle.simulation.proofs.Named.{await_more, named_more}
-use Rattle.simulation.proofs.Seats.{IsSeatOf, clients_of, seat_of, seats_set, seat_place}
+use Rattle.simulation.proofs.Seats.{IsSeatOf, seat_of, seats_set, seat_place}
 use Rattle.simulation.proofs.Showing.{stepped, goes_on, one_longer}
 
 -- the simulation once a client changed and sent a message
@@ -79,25 +78,25 @@ module _ {X : Type 0} (seen : X → Contents) (images : X → Image → Type 0) 
       → GoesOn run (Issue number call) (Shows seen images (sent_by old (index_of number) (issued seat.client call) (issue_msg seat.client call)))
   issued_at number seat call is going idle few served =
       goes_on run (Issue number call)
-        (say (set_client run.trace.world number (with_client seat (issued seat.client call))) (issue_msg seat.client call ∷ []))
-        (past.after_issue run.trace.past number call (Some seat))
-        (Shows seen images (sent_by old (index_of number) (issued seat.client call) (issue_msg seat.client call)))
-        (ap (λ o. can_issue o call) is ∙ may_issue seat call going idle few served)
-        (ap (events.after_issue run.trace.world number call) is)
-        (ap (past.after_issue run.trace.past number call) is)
-        (sent_shows (Issue number call) number seat (issued seat.client call) (issue_msg seat.client call) _ (past.after_issue run.trace.past number call (Some seat)) (λ p. refl) refl going refl refl)
+      (say (set_client run.trace.world number (with_client seat (issued seat.client call))) (issue_msg seat.client call ∷ []))
+      (past.after_issue run.trace.past number call (Some seat))
+      (Shows seen images (sent_by old (index_of number) (issued seat.client call) (issue_msg seat.client call)))
+      (ap (λ o. can_issue o call) is ∙ may_issue seat call going idle few served)
+      (ap (events.after_issue run.trace.world number call) is)
+      (ap (past.after_issue run.trace.past number call) is)
+      (sent_shows (Issue number call) number seat (issued seat.client call) (issue_msg seat.client call) _ (past.after_issue run.trace.past number call (Some seat)) (λ p. refl) refl going refl refl)
 
   resent_at : (number : ℕ) (seat : ClientState) (pending : Pending) → seat_at run.trace.world.clients number ≡ Some seat → seat.quit ≡ false → seat.client.pending ≡ Some pending → seat.client.seq < 2 ^ 63 → pending.attempt < 2 ^ 31
       → GoesOn run (Resend number) (Shows seen images (sent_by old (index_of number) (resent seat.client pending) (resend_msg seat.client pending)))
   resent_at number seat pending is going busy few room =
       goes_on run (Resend number)
-        (say (set_client run.trace.world number (with_client seat (resent seat.client pending))) (resend_msg seat.client pending ∷ []))
-        run.trace.past
-        (Shows seen images (sent_by old (index_of number) (resent seat.client pending) (resend_msg seat.client pending)))
-        (ap can_resend is ∙ may_resend seat pending going busy few room)
-        (ap (events.after_resend run.trace.world number) is ∙ ap (events.after_resend_of run.trace.world number seat) busy)
-        refl
-        (sent_shows (Resend number) number seat (resent seat.client pending) (resend_msg seat.client pending) _ run.trace.past (λ p. refl) refl going refl refl)
+      (say (set_client run.trace.world number (with_client seat (resent seat.client pending))) (resend_msg seat.client pending ∷ []))
+      run.trace.past
+      (Shows seen images (sent_by old (index_of number) (resent seat.client pending) (resend_msg seat.client pending)))
+      (ap can_resend is ∙ may_resend seat pending going busy few room)
+      (ap (events.after_resend run.trace.world number) is ∙ ap (events.after_resend_of run.trace.world number seat) busy)
+      refl
+      (sent_shows (Resend number) number seat (resent seat.client pending) (resend_msg seat.client pending) _ run.trace.past (λ p. refl) refl going refl refl)
 
   pub seat_going : (number : ℕ) (seat : ClientState) → seat_at run.trace.world.clients number ≡ Some seat → seat.quit ≡ false
   seat_going number seat is = shows.going_on.at (index_of number) seat (seat_place run.trace.world.clients number seat is)
@@ -111,13 +110,13 @@ module _ {X : Type 0} (seen : X → Contents) (images : X → Image → Type 0) 
   issue_happens number client call is idle few served run shows =
       let s = seat_here seen images old run shows number client is in
       subst (λ c. GoesOn run (Issue number call) (Shows seen images (sent_by old (index_of number) (issued c call) (issue_msg c call)))) s.same
-        (issued_at seen images old run shows number s.seat call s.is (seat_going seen images old run shows number s.seat s.is)
-          (ap (λ (c : ClientV). c.pending) s.same ∙ idle) (subst (λ (c : ClientV). c.seq < 2 ^ 63) (sym s.same) few) served)
+      (issued_at seen images old run shows number s.seat call s.is (seat_going seen images old run shows number s.seat s.is)
+      (ap (λ (c : ClientV). c.pending) s.same ∙ idle) (subst (λ (c : ClientV). c.seq < 2 ^ 63) (sym s.same) few) served)
 
   pub resend_happens : (number : ℕ) (client : ClientV) (pending : Pending) → client_at old.clients number ≡ Some client → client.pending ≡ Some pending → client.seq < 2 ^ 63 → pending.attempt < 2 ^ 31
       → Happens seen images old (sent_by old (index_of number) (resent client pending) (resend_msg client pending)) (Resend number)
   resend_happens number client pending is busy few room run shows =
       let s = seat_here seen images old run shows number client is in
       subst (λ c. GoesOn run (Resend number) (Shows seen images (sent_by old (index_of number) (resent c pending) (resend_msg c pending)))) s.same
-        (resent_at seen images old run shows number s.seat pending s.is (seat_going seen images old run shows number s.seat s.is)
-          (ap (λ (c : ClientV). c.pending) s.same ∙ busy) (subst (λ (c : ClientV). c.seq < 2 ^ 63) (sym s.same) few) room)
+      (resent_at seen images old run shows number s.seat pending s.is (seat_going seen images old run shows number s.seat s.is)
+      (ap (λ (c : ClientV). c.pending) s.same ∙ busy) (subst (λ (c : ClientV). c.seq < 2 ^ 63) (sym s.same) few) room)

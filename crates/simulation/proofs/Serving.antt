@@ -1,8 +1,7 @@
 -- A server serves a message.
-use Rattle.std.proofs.Common.{◌≡◌, ◌∙◌, sym, ap, subst, refl, ℕ, zero, suc, ◌+◌, ◌<◌, ◌≤◌, ◌==◌, ◌&&◌, not, Bool, true, false, is_some, List, [], ◌∷◌, ◌++◌, length, Option, Some, None, inl, inr, arith}
-use Rattle.std.specs.Prelude.{◌||◌, ◌⊎◌, slice_set}
-use Rattle.std.specs.Prelude.{map as list_map}
-use Rattle.std.specs.List.{slice_get, list_any}
+use Rattle.std.proofs.Common.{◌≡◌, ◌∙◌, sym, ap, subst, refl, ℕ, zero, suc, ◌+◌, ◌==◌, ◌&&◌, not, Bool, true, false, is_some, List, [], ◌∷◌, ◌++◌, length, Some, inl, inr, arith}
+use Rattle.std.specs.Prelude.{◌||◌, slice_set}
+use Rattle.std.specs.List.{slice_get}
 use Rattle.std.specs.FinSet as set
 use Rattle.std.proofs.lemmas.Bool.{and_from}
 use Rattle.std.proofs.lemmas.Bool.Decides.{nat_tests}
@@ -24,17 +23,17 @@ use Rattle.world.specs.Events as events
 use Rattle.world.specs.Events.{is_for_server, is_for_client, can_serve, set_server, say, msgs_at, onto_msgs}
 use Rattle.world.specs.Histories as past
 use Rattle.world.specs.Histories.{History, is_taken, served_one}
-use Rattle.world.specs.Worlds.{WorldV, store_of, with_store}
+use Rattle.world.specs.Worlds.{store_of, with_store}
 use Rattle.world.proofs.Grow.{within}
 use Rattle.simulation.specs.Calls.{RepliesTo}
 use Rattle.simulation.specs.Entries.{changes_of, lookup_of, with_one}
 use Rattle.simulation.specs.Runs.{RunV, GoesOn, is_named, names}
-use Rattle.simulation.specs.Shows.{SimulationV, Shows, Happens, IsServerAt, IsServer, AreServers, waiting_cmp, server_for, is_request_of, made_of}
-use Rattle.simulation.proofs.Named.{Await, AreNamed, for_server, get_past}
+use Rattle.simulation.specs.Shows.{SimulationV, Shows, Happens, IsServerAt, IsServer, waiting_cmp, server_for, is_request_of}
+use Rattle.simulation.proofs.Named.{Await, AreNamed, for_server}
 use Rattle.simulation.proofs.Outputs.{IsFirstFor, for_none, first_for, serve_makes, serve_answered}
 use Rattle.simulation.proofs.Sets.{waiting_total, exact_waiting, remove_here, remove_apart, number_or_apart}
-use Rattle.simulation.proofs.Showing.{stepped, goes_on, one_longer}
-use Rattle.simulation.proofs.Standing.{IsUpAs, IsDownAs, IsServerOf, as_up, server_of, servers_set}
+use Rattle.simulation.proofs.Showing.{goes_on, one_longer}
+use Rattle.simulation.proofs.Standing.{IsUpAs, as_up, server_of, servers_set}
 
 -- which messages wait once one was served
 
@@ -79,21 +78,21 @@ module _ (waiting : set.FinSet waiting_cmp) (sent : List Msg) (events : List Eve
 
   gone_here : (s : ℕ) (msg : Msg) → slice_get sent place ≡ Some msg → server_for (Some msg) ≡ Some server → set.contains (set.remove waiting (server, place)) (s, place) ≡ false
   gone_here s msg there is = elim (number_or_apart s server) [
-      | inl same ↦ subst (λ n. set.contains (set.remove waiting (server, place)) (n, place) ≡ false) (sym same) (remove_here waiting_total exact_waiting waiting (server, place))
-      | inr differ ↦ remove_apart waiting_total exact_waiting waiting (server, place) (s, place) (λ same. differ (ap (λ (p : ℕ × ℕ). p.0) same))
-          ∙ await s place ∙ ap (λ o. is_for_server s o && not (is_named events place)) there ∙ ap (λ b. b && not (is_named events place)) (for_server s server msg is ∙ number_apart s server differ)
-    ]
+    | inl same ↦ subst (λ n. set.contains (set.remove waiting (server, place)) (n, place) ≡ false) (sym same) (remove_here waiting_total exact_waiting waiting (server, place))
+    | inr differ ↦ remove_apart waiting_total exact_waiting waiting (server, place) (s, place) (λ same. differ (ap (λ (p : ℕ × ℕ). p.0) same))
+        ∙ await s place ∙ ap (λ o. is_for_server s o && not (is_named events place)) there ∙ ap (λ b. b && not (is_named events place)) (for_server s server msg is ∙ number_apart s server differ)
+  ]
 
   pub await_served : (msg : Msg) (outputs : List Msg) → slice_get sent place ≡ Some msg → server_for (Some msg) ≡ Some server → ((s k : ℕ) → is_for_server s (slice_get outputs k) ≡ false)
       → Await (set.remove waiting (server, place)) (sent ++ outputs) (events ++ Serve server (place ∷ []) how ∷ [])
   await_served msg outputs there is none s k = elim (number_or_apart k place) [
-      | inl same ↦ subst (λ n. set.contains (set.remove waiting (server, place)) (s, n) ≡ (is_for_server s (slice_get (sent ++ outputs) n) && not (is_named (events ++ Serve server (place ∷ []) how ∷ []) n))) (sym same)
-          (await_here outputs s _ refl (gone_here s msg there is))
-      | inr differ ↦ remove_apart waiting_total exact_waiting waiting (server, place) (s, k) (λ same. differ (ap (λ (p : ℕ × ℕ). p.1) same))
-          ∙ await s k
-          ∙ sym (ap (λ b. b && not (is_named (events ++ Serve server (place ∷ []) how ∷ []) k)) (sent_for s sent outputs (none s) k)
-            ∙ ap (λ n. is_for_server s (slice_get sent k) && not n) (named_one events server place k how false (number_apart k place differ) ∙ or_false (is_named events k)))
-    ]
+    | inl same ↦ subst (λ n. set.contains (set.remove waiting (server, place)) (s, n) ≡ (is_for_server s (slice_get (sent ++ outputs) n) && not (is_named (events ++ Serve server (place ∷ []) how ∷ []) n))) (sym same)
+        (await_here outputs s _ refl (gone_here s msg there is))
+    | inr differ ↦ remove_apart waiting_total exact_waiting waiting (server, place) (s, k) (λ same. differ (ap (λ (p : ℕ × ℕ). p.1) same))
+        ∙ await s k
+        ∙ sym (ap (λ b. b && not (is_named (events ++ Serve server (place ∷ []) how ∷ []) k)) (sent_for s sent outputs (none s) k)
+        ∙ ap (λ n. is_for_server s (slice_get sent k) && not n) (named_one events server place k how false (number_apart k place differ) ∙ or_false (is_named events k)))
+  ]
 
   pub named_served : (msg : Msg) (outputs : List Msg) → slice_get sent place ≡ Some msg → AreNamed (sent ++ outputs) (events ++ Serve server (place ∷ []) how ∷ [])
   named_served msg outputs there k e =
@@ -192,34 +191,34 @@ module _ {X : Type 0} (seen : X → Contents) (images : X → Image → Type 0) 
 
   served_at : IsServedStore seen store new (serve (store_of state) msg run.trace.world.now).store
       → GoesOn run (Serve server (place ∷ []) ends.Done)
-        (Shows seen images (served_by old server place new msg (serve (store_of state) msg run.trace.world.now).records (serve (store_of state) msg run.trace.world.now).outputs))
+      (Shows seen images (served_by old server place new msg (serve (store_of state) msg run.trace.world.now).records (serve (store_of state) msg run.trace.world.now).outputs))
   served_at s =
       let given = serve (store_of state) msg run.trace.world.now in
       goes_on run (Serve server (place ∷ []) ends.Done)
-        (say (set_server run.trace.world server (with_store state given.store)) (given.outputs ++ []))
-        (served_one run.trace.past (store_of state) msg run.trace.world.now (length run.trace.world.sent))
-        (Shows seen images (served_by old server place new msg given.records given.outputs))
-        (may_serve run.trace.world.servers run.trace.world.sent server place state msg at there_too meant (can_serve_up state (store_of state) u numbers))
-        (ap (events.after_serve run.trace.world server (place ∷ []) ends.Done) at
-          ∙ ap (λ msgs. events.after_serve_of run.trace.world server state (serve_all (store_of state) msgs run.trace.world.now) ends.Done) msgs_there)
-        (ap (past.after_serve run.trace.past run.trace.world (place ∷ []) ends.Done) at
-          ∙ ap (λ msgs. past.served_if run.trace.past run.trace.world state msgs ends.Done) msgs_there)
-        (record {
-          setup = shows.setup;
-          moment = shows.moment;
-          count = one_longer run.events (Serve server (place ∷ []) ends.Done) old.count shows.count;
-          servers = servers_set seen images old.setup old.stores run.trace.world.servers server new (with_store state given.store) shows.servers
-              (served_server seen images old.setup server store new state (store_of state) good u given.store s);
-          clients = shows.clients;
-          going_on = shows.going_on;
-          sent = ap (λ l. run.trace.world.sent ++ l) (append-nil given.outputs) ∙ ap (λ l. l ++ given.outputs) shows.sent;
-          named = named_served old.waiting old.sent run.events shows.waiting shows.named server place ends.Done msg given.outputs there;
-          waiting = await_served old.waiting old.sent run.events shows.waiting shows.named server place ends.Done msg given.outputs there meant (λ s k. for_none s (store_of state) msg run.trace.world.now k);
-          made = serve_makes run.trace.past (store_of state) msg run.trace.world.now (length run.trace.world.sent)
-              ∙ ap (λ l. with_one (l ++ changes_of given.records) (lookup_of msg given.outputs (length run.trace.world.sent))) shows.made
-              ∙ ap (λ (l : List Msg). with_one (old.made ++ changes_of given.records) (lookup_of msg given.outputs (length l))) shows.sent;
-          taken = λ q. shows.taken q ∙ sym (ap (λ a. is_taken a q) (serve_answered run.trace.past (store_of state) msg run.trace.world.now (length run.trace.world.sent)));
-        })
+      (say (set_server run.trace.world server (with_store state given.store)) (given.outputs ++ []))
+      (served_one run.trace.past (store_of state) msg run.trace.world.now (length run.trace.world.sent))
+      (Shows seen images (served_by old server place new msg given.records given.outputs))
+      (may_serve run.trace.world.servers run.trace.world.sent server place state msg at there_too meant (can_serve_up state (store_of state) u numbers))
+      (ap (events.after_serve run.trace.world server (place ∷ []) ends.Done) at
+      ∙ ap (λ msgs. events.after_serve_of run.trace.world server state (serve_all (store_of state) msgs run.trace.world.now) ends.Done) msgs_there)
+      (ap (past.after_serve run.trace.past run.trace.world (place ∷ []) ends.Done) at
+      ∙ ap (λ msgs. past.served_if run.trace.past run.trace.world state msgs ends.Done) msgs_there)
+      (record {
+        setup = shows.setup;
+        moment = shows.moment;
+        count = one_longer run.events (Serve server (place ∷ []) ends.Done) old.count shows.count;
+        servers = servers_set seen images old.setup old.stores run.trace.world.servers server new (with_store state given.store) shows.servers
+            (served_server seen images old.setup server store new state (store_of state) good u given.store s);
+        clients = shows.clients;
+        going_on = shows.going_on;
+        sent = ap (λ l. run.trace.world.sent ++ l) (append-nil given.outputs) ∙ ap (λ l. l ++ given.outputs) shows.sent;
+        named = named_served old.waiting old.sent run.events shows.waiting shows.named server place ends.Done msg given.outputs there;
+        waiting = await_served old.waiting old.sent run.events shows.waiting shows.named server place ends.Done msg given.outputs there meant (λ s k. for_none s (store_of state) msg run.trace.world.now k);
+        made = serve_makes run.trace.past (store_of state) msg run.trace.world.now (length run.trace.world.sent)
+            ∙ ap (λ l. with_one (l ++ changes_of given.records) (lookup_of msg given.outputs (length run.trace.world.sent))) shows.made
+            ∙ ap (λ (l : List Msg). with_one (old.made ++ changes_of given.records) (lookup_of msg given.outputs (length l))) shows.sent;
+        taken = λ q. shows.taken q ∙ sym (ap (λ a. is_taken a q) (serve_answered run.trace.past (store_of state) msg run.trace.world.now (length run.trace.world.sent)));
+      })
 
   stopped_at : IsStoppedStore seen images store new (store_of state) (serve (store_of state) msg run.trace.world.now).records
       → GoesOn run (Serve server (place ∷ []) ends.Stop) (Shows seen images (stopped_by old server place new))
@@ -227,28 +226,28 @@ module _ {X : Type 0} (seen : X → Contents) (images : X → Image → Type 0) 
       let given = serve (store_of state) msg run.trace.world.now in
       let left : ServerState = record { node = state.node; rows = state.rows; up = false; doubt = given.records ++ [] } in
       goes_on run (Serve server (place ∷ []) ends.Stop)
-        (set_server run.trace.world server left)
-        run.trace.past
-        (Shows seen images (stopped_by old server place new))
-        (may_serve run.trace.world.servers run.trace.world.sent server place state msg at there_too meant (can_serve_up state (store_of state) u numbers))
-        (ap (events.after_serve run.trace.world server (place ∷ []) ends.Stop) at
-          ∙ ap (λ msgs. events.after_serve_of run.trace.world server state (serve_all (store_of state) msgs run.trace.world.now) ends.Stop) msgs_there)
-        (ap (past.after_serve run.trace.past run.trace.world (place ∷ []) ends.Stop) at)
-        (record {
-          setup = shows.setup;
-          moment = shows.moment;
-          count = one_longer run.events (Serve server (place ∷ []) ends.Stop) old.count shows.count;
-          servers = servers_set seen images old.setup old.stores run.trace.world.servers server new left shows.servers
-              (stopped_server seen images old.setup server store new state (store_of state) good u (given.records ++ [])
-                (record { told = s.told; server = s.server; setup = s.setup; at = s.at; doubt = s.doubt ∙ sym (append-nil given.records) }));
-          clients = shows.clients;
-          going_on = shows.going_on;
-          sent = shows.sent;
-          named = named_quiet old.waiting old.sent run.events shows.waiting shows.named server place ends.Stop msg there;
-          waiting = await_quiet old.waiting old.sent run.events shows.waiting shows.named server place ends.Stop msg there meant;
-          made = shows.made;
-          taken = shows.taken;
-        })
+      (set_server run.trace.world server left)
+      run.trace.past
+      (Shows seen images (stopped_by old server place new))
+      (may_serve run.trace.world.servers run.trace.world.sent server place state msg at there_too meant (can_serve_up state (store_of state) u numbers))
+      (ap (events.after_serve run.trace.world server (place ∷ []) ends.Stop) at
+      ∙ ap (λ msgs. events.after_serve_of run.trace.world server state (serve_all (store_of state) msgs run.trace.world.now) ends.Stop) msgs_there)
+      (ap (past.after_serve run.trace.past run.trace.world (place ∷ []) ends.Stop) at)
+      (record {
+        setup = shows.setup;
+        moment = shows.moment;
+        count = one_longer run.events (Serve server (place ∷ []) ends.Stop) old.count shows.count;
+        servers = servers_set seen images old.setup old.stores run.trace.world.servers server new left shows.servers
+            (stopped_server seen images old.setup server store new state (store_of state) good u (given.records ++ [])
+            (record { told = s.told; server = s.server; setup = s.setup; at = s.at; doubt = s.doubt ∙ sym (append-nil given.records) }));
+        clients = shows.clients;
+        going_on = shows.going_on;
+        sent = shows.sent;
+        named = named_quiet old.waiting old.sent run.events shows.waiting shows.named server place ends.Stop msg there;
+        waiting = await_quiet old.waiting old.sent run.events shows.waiting shows.named server place ends.Stop msg there meant;
+        made = shows.made;
+        taken = shows.taken;
+      })
 
 module _ {X : Type 0} (seen : X → Contents) (images : X → Image → Type 0) (old : SimulationV X) (server place : ℕ) (store new : Store X) (up : StoreV) (msg : Msg) (t : IsToServe old server place store up msg) where
   pub serve_happens : (records : List Record) (outputs : List Msg) → IsServedStore seen store new (serve up msg old.moment).store → records ≡ (serve up msg old.moment).records → outputs ≡ (serve up msg old.moment).outputs
@@ -257,24 +256,24 @@ module _ {X : Type 0} (seen : X → Contents) (images : X → Image → Type 0) 
       let h = server_of seen images old.setup old.stores run.trace.world.servers server store shows.servers t.is in
       let u = as_up seen images old.setup server store h.state up h.good t.up' in
       let done = subst (λ m. IsServedStore seen store new (serve (store_of h.state) msg m).store
-            → GoesOn run (Serve server (place ∷ []) ends.Done) (Shows seen images (served_by old server place new msg (serve (store_of h.state) msg m).records (serve (store_of h.state) msg m).outputs)))
-          shows.moment
-          (served_at seen images old run shows server place store new h.state up msg h.is h.good (record { running = u.running; same = refl; sure = u.sure })
-            (ap (λ (v : StoreV). has_numbers v.node) u.same ∙ t.numbers) t.there t.meant) in
+      → GoesOn run (Serve server (place ∷ []) ends.Done) (Shows seen images (served_by old server place new msg (serve (store_of h.state) msg m).records (serve (store_of h.state) msg m).outputs)))
+      shows.moment
+      (served_at seen images old run shows server place store new h.state up msg h.is h.good (record { running = u.running; same = refl; sure = u.sure })
+      (ap (λ (v : StoreV). has_numbers v.node) u.same ∙ t.numbers) t.there t.meant) in
       let at = subst (λ v. IsServedStore seen store new (serve v msg old.moment).store
-            → GoesOn run (Serve server (place ∷ []) ends.Done) (Shows seen images (served_by old server place new msg (serve v msg old.moment).records (serve v msg old.moment).outputs)))
-          u.same done s in
+      → GoesOn run (Serve server (place ∷ []) ends.Done) (Shows seen images (served_by old server place new msg (serve v msg old.moment).records (serve v msg old.moment).outputs)))
+      u.same done s in
       subst (λ r. GoesOn run (Serve server (place ∷ []) ends.Done) (Shows seen images (served_by old server place new msg r outputs))) (sym kept)
-        (subst (λ o. GoesOn run (Serve server (place ∷ []) ends.Done) (Shows seen images (served_by old server place new msg (serve up msg old.moment).records o))) (sym sent) at)
+      (subst (λ o. GoesOn run (Serve server (place ∷ []) ends.Done) (Shows seen images (served_by old server place new msg (serve up msg old.moment).records o))) (sym sent) at)
 
   pub stop_happens : IsStoppedStore seen images store new up (serve up msg old.moment).records → Happens seen images old (stopped_by old server place new) (Serve server (place ∷ []) ends.Stop)
   stop_happens s run shows =
       let h = server_of seen images old.setup old.stores run.trace.world.servers server store shows.servers t.is in
       let u = as_up seen images old.setup server store h.state up h.good t.up' in
       let done = subst (λ m. IsStoppedStore seen images store new (store_of h.state) (serve (store_of h.state) msg m).records → GoesOn run (Serve server (place ∷ []) ends.Stop) (Shows seen images (stopped_by old server place new)))
-          shows.moment
-          (stopped_at seen images old run shows server place store new h.state up msg h.is h.good (record { running = u.running; same = refl; sure = u.sure })
-            (ap (λ (v : StoreV). has_numbers v.node) u.same ∙ t.numbers) t.there t.meant) in
+      shows.moment
+      (stopped_at seen images old run shows server place store new h.state up msg h.is h.good (record { running = u.running; same = refl; sure = u.sure })
+      (ap (λ (v : StoreV). has_numbers v.node) u.same ∙ t.numbers) t.there t.meant) in
       subst (λ v. IsStoppedStore seen images store new v (serve v msg old.moment).records → GoesOn run (Serve server (place ∷ []) ends.Stop) (Shows seen images (stopped_by old server place new))) u.same done s
 
 -- a reply of a Serve is for the client that asked

@@ -1,5 +1,5 @@
 -- A simulation shows a run with one event more.
-use Rattle.std.proofs.Common.{◌≡◌, ◌∙◌, sym, ap, subst, refl, ℕ, ◌+◌, ◌<◌, ◌^◌, true, false, List, [], ◌∷◌, ◌++◌, length, Some, inl, arith}
+use Rattle.std.proofs.Common.{◌≡◌, ◌∙◌, sym, ap, subst, refl, ℕ, ◌+◌, ◌<◌, ◌^◌, true, List, [], ◌∷◌, ◌++◌, length, inl, arith}
 use Rattle.std.specs.Prelude.{nat_lt}
 use Rattle.std.proofs.lemmas.Bool.Decides.{nat_tests}
 use Rattle.std.proofs.lemmas.List.{length-append}
@@ -43,17 +43,17 @@ module _ {X : Type 0} (seen : X → Contents) (images : X → Image → Type 0) 
   pub ticked : (old : SimulationV X) (by : ℕ) → old.moment + by < 2 ^ 43 → Happens seen images old (record old { moment = old.moment + by; count = old.count + 1 }) (Tick by)
   ticked old by below run shows =
       goes_on run (Tick by) (record run.trace.world { now = run.trace.world.now + by }) run.trace.past (Shows seen images (record old { moment = old.moment + by; count = old.count + 1 }))
-        (is_below (run.trace.world.now + by) (2 ^ 43) (subst (λ n. n + by < 2 ^ 43) (sym shows.moment) below)) refl refl
-        (record {
-          setup = shows.setup;
-          moment = ap (λ n. n + by) shows.moment;
-          count = one_longer run.events (Tick by) old.count shows.count;
-          servers = shows.servers;
-          clients = shows.clients;
-          going_on = shows.going_on;
-          sent = shows.sent;
-          named = still_named old.waiting old.sent run.events shows.waiting shows.named (Tick by) (λ k. refl);
-          waiting = await_same old.waiting old.sent run.events shows.waiting shows.named (Tick by) (λ k. refl);
-          made = shows.made;
-          taken = shows.taken;
-        })
+      (is_below (run.trace.world.now + by) (2 ^ 43) (subst (λ n. n + by < 2 ^ 43) (sym shows.moment) below)) refl refl
+      (record {
+        setup = shows.setup;
+        moment = ap (λ n. n + by) shows.moment;
+        count = one_longer run.events (Tick by) old.count shows.count;
+        servers = shows.servers;
+        clients = shows.clients;
+        going_on = shows.going_on;
+        sent = shows.sent;
+        named = still_named old.waiting old.sent run.events shows.waiting shows.named (Tick by) (λ k. refl);
+        waiting = await_same old.waiting old.sent run.events shows.waiting shows.named (Tick by) (λ k. refl);
+        made = shows.made;
+        taken = shows.taken;
+      })

@@ -1,15 +1,14 @@
 -- The servers of a simulation and those of a world, each at its place.
-use Rattle.std.proofs.Common.{◌≡◌, ◌∙◌, sym, ap, subst, refl, ℕ, zero, suc, ◌+◌, ◌<◌, Bool, true, false, is_some, List, [], ◌∷◌, length, Option, Some, None, inl, inr, arith}
-use Rattle.std.specs.Prelude.{◌⊎◌, slice_set}
+use Rattle.std.proofs.Common.{◌≡◌, ◌∙◌, sym, ap, subst, refl, ℕ, zero, suc, ◌<◌, Bool, true, false, is_some, List, [], ◌∷◌, length, Option, Some, None, inl, inr, arith}
+use Rattle.std.specs.Prelude.{slice_set}
 use Rattle.std.specs.List.{slice_get}
 use Rattle.mds_base.specs.declared.setup.Setup.{Setup}
 use Rattle.mds_out.specs.Disk.{Image, Contents}
 use Rattle.node_core.specs.Nodes.{StoreV, has_numbers}
 use Rattle.node_store.specs.Store.{Store, IsDownAt}
 use Rattle.world.specs.declared.state.ServerState.{ServerState}
-use Rattle.world.specs.Lists.{Each}
 use Rattle.world.specs.Worlds.{store_of}
-use Rattle.world.proofs.Grow.{within, length_set, get_set, set_apart, set_here}
+use Rattle.world.proofs.Grow.{within, length_set, get_set}
 use Rattle.simulation.specs.Shows.{IsServerAt, IsServer, AreServers, store_is_up, store_has_numbers, up_has_numbers}
 
 -- what stands at a place

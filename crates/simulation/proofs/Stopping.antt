@@ -1,8 +1,7 @@
 -- A message meets a server that is down, and a server is stopped.
-use Rattle.std.proofs.Common.{◌≡◌, ◌∙◌, sym, ap, subst, refl, ℕ, ◌+◌, ◌<◌, ◌&&◌, not, Bool, true, false, is_some, List, [], ◌∷◌, ◌++◌, length, Option, Some, None, inl, inr}
-use Rattle.std.specs.Prelude.{◌≢◌, slice_set}
+use Rattle.std.proofs.Common.{◌≡◌, ◌∙◌, sym, ap, subst, refl, ℕ, ◌+◌, ◌&&◌, not, true, false, is_some, List, [], Some, None, inr}
+use Rattle.std.specs.Prelude.{slice_set}
 use Rattle.std.specs.List.{slice_get}
-use Rattle.std.proofs.lemmas.Bool.{and_from}
 use Rattle.mds_out.specs.Disk.{Image, Contents}
 use Rattle.records.specs.declared.msg.Msg.{Msg}
 use Rattle.records.specs.declared.msg.Msg.TheVariants.{Request, Redirect, Answer, Busy, Held, Transfer, Installed}
@@ -10,26 +9,28 @@ use Rattle.node_core.specs.Nodes.{StoreV}
 use Rattle.node_store.specs.Store.{Store, IsDownAt}
 use Rattle.world.specs.declared.event.Event.{Event}
 use Rattle.world.specs.declared.event.Event.TheVariants.{Miss, Stop}
-use Rattle.world.specs.declared.event.StopCause.TheVariants.{Asked, Device}
+use Rattle.world.specs.declared.event.StopCause.TheVariants.{Asked}
 use Rattle.world.specs.declared.state.ServerState.{ServerState}
 use Rattle.world.specs.Events as events
 use Rattle.world.specs.Events.{set_server, misses}
-use Rattle.world.specs.Worlds.{store_of}
-use Rattle.simulation.specs.Runs.{RunV, GoesOn, grown}
-use Rattle.simulation.specs.Shows.{SimulationV, Shows, Happens, StaysNear, StandNear, IsServer, AreServers, server_for}
+use Rattle.simulation.specs.Runs.{grown}
+use Rattle.simulation.specs.Shows.{SimulationV, Shows, Happens, StaysNear, AreServers, server_for}
 use Rattle.simulation.proofs.Named.{await_same, still_named}
 use Rattle.simulation.proofs.Showing.{goes_on, one_longer}
-use Rattle.simulation.proofs.Standing.{IsUpAs, IsDownAs, as_up, as_down, server_of, servers_set}
+use Rattle.simulation.proofs.Standing.{as_up, as_down, server_of, servers_set}
 
 -- a refused call that left the servers as a further event would leaves them near the run
 pub near_after : {X : Type 0} (seen : X → Contents) (images : X → Image → Type 0) (old mid new : SimulationV X) (event : Event) → mid.setup ≡ old.setup → new.stores ≡ mid.stores → Happens seen images old mid event → StaysNear seen images old new
 near_after {X = X} seen images old mid new event setup stores happens run shows =
     let h = happens run shows in
-    inr (event, record {
-      may = h.may;
-      then = subst (λ s. AreServers seen images s new.stores (grown run event).trace.world.servers) setup
-          (subst (λ (l : List (Store X)). AreServers seen images mid.setup l (grown run event).trace.world.servers) (sym stores) h.then.servers);
-    })
+    inr (
+      event,
+      record {
+        may = h.may;
+        then = subst (λ s. AreServers seen images s new.stores (grown run event).trace.world.servers) setup
+            (subst (λ (l : List (Store X)). AreServers seen images mid.setup l (grown run event).trace.world.servers) (sym stores) h.then.servers);
+      },
+    )
 
 -- A message meets a server that is down
 
@@ -52,22 +53,22 @@ module _ {X : Type 0} (seen : X → Contents) (images : X → Image → Type 0) 
       let h = server_of seen images old.setup old.stores run.trace.world.servers server store shows.servers is in
       let d = as_down seen images old.setup server store h.state h.good down in
       goes_on run (Miss place) run.trace.world run.trace.past (Shows seen images (record old { count = old.count + 1 }))
-        (ap (misses run.trace.world.servers) (ap (λ l. slice_get l place) shows.sent ∙ there) ∙ misses_there run.trace.world.servers msg server h.state meant h.is d.stopped)
-        refl
-        refl
-        (record {
-          setup = shows.setup;
-          moment = shows.moment;
-          count = one_longer run.events (Miss place) old.count shows.count;
-          servers = shows.servers;
-          clients = shows.clients;
-          going_on = shows.going_on;
-          sent = shows.sent;
-          named = still_named old.waiting old.sent run.events shows.waiting shows.named (Miss place) (λ k. refl);
-          waiting = await_same old.waiting old.sent run.events shows.waiting shows.named (Miss place) (λ k. refl);
-          made = shows.made;
-          taken = shows.taken;
-        })
+      (ap (misses run.trace.world.servers) (ap (λ l. slice_get l place) shows.sent ∙ there) ∙ misses_there run.trace.world.servers msg server h.state meant h.is d.stopped)
+      refl
+      refl
+      (record {
+        setup = shows.setup;
+        moment = shows.moment;
+        count = one_longer run.events (Miss place) old.count shows.count;
+        servers = shows.servers;
+        clients = shows.clients;
+        going_on = shows.going_on;
+        sent = shows.sent;
+        named = still_named old.waiting old.sent run.events shows.waiting shows.named (Miss place) (λ k. refl);
+        waiting = await_same old.waiting old.sent run.events shows.waiting shows.named (Miss place) (λ k. refl);
+        made = shows.made;
+        taken = shows.taken;
+      })
 
 -- A server is stopped
 
@@ -90,24 +91,24 @@ module _ {X : Type 0} (seen : X → Contents) (images : X → Image → Type 0) 
       let u = as_up seen images old.setup server store h.state up h.good is_up in
       let left : ServerState = record { node = h.state.node; rows = h.state.rows; up = false; doubt = h.state.doubt } in
       goes_on run (Stop server Asked) (set_server run.trace.world server left) run.trace.past (Shows seen images (halted_by old server new))
-        (ap events.is_up h.is ∙ u.running)
-        (ap (events.after_stop run.trace.world server) h.is)
-        refl
-        (record {
-          setup = shows.setup;
-          moment = shows.moment;
-          count = one_longer run.events (Stop server Asked) old.count shows.count;
-          servers = servers_set seen images old.setup old.stores run.trace.world.servers server new left shows.servers (record {
-            told = s.told h.good.told;
-            server = s.server ∙ h.good.server;
-            setup' = s.setup ∙ h.good.setup';
-            at = (subst (IsDownAt seen images new) (sym u.same) s.at, s.sure ∙ sym u.sure);
-          });
-          clients = shows.clients;
-          going_on = shows.going_on;
-          sent = shows.sent;
-          named = still_named old.waiting old.sent run.events shows.waiting shows.named (Stop server Asked) (λ k. refl);
-          waiting = await_same old.waiting old.sent run.events shows.waiting shows.named (Stop server Asked) (λ k. refl);
-          made = shows.made;
-          taken = shows.taken;
-        })
+      (ap events.is_up h.is ∙ u.running)
+      (ap (events.after_stop run.trace.world server) h.is)
+      refl
+      (record {
+        setup = shows.setup;
+        moment = shows.moment;
+        count = one_longer run.events (Stop server Asked) old.count shows.count;
+        servers = servers_set seen images old.setup old.stores run.trace.world.servers server new left shows.servers (record {
+          told = s.told h.good.told;
+          server = s.server ∙ h.good.server;
+          setup' = s.setup ∙ h.good.setup';
+          at = (subst (IsDownAt seen images new) (sym u.same) s.at, s.sure ∙ sym u.sure);
+        });
+        clients = shows.clients;
+        going_on = shows.going_on;
+        sent = shows.sent;
+        named = still_named old.waiting old.sent run.events shows.waiting shows.named (Stop server Asked) (λ k. refl);
+        waiting = await_same old.waiting old.sent run.events shows.waiting shows.named (Stop server Asked) (λ k. refl);
+        made = shows.made;
+        taken = shows.taken;
+      })

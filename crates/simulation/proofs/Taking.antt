@@ -1,8 +1,8 @@
 -- A client takes a message.
-use Rattle.std.proofs.Common.{◌≡◌, ◌∙◌, sym, ap, subst, refl, ℕ, ◌+◌, ◌<◌, ◌≤◌, ◌^◌, ◌&&◌, ◌==◌, not, Bool, true, false, List, [], ◌∷◌, ◌++◌, length, Option, Some, None, inl, inr, arith}
+use Rattle.std.proofs.Common.{◌≡◌, ◌∙◌, sym, ap, subst, refl, ℕ, ◌+◌, ◌<◌, ◌^◌, ◌==◌, Bool, true, false, List, [], ◌∷◌, ◌++◌, Option, Some, None, inl, inr, arith}
 use Rattle.std.specs.Prelude.{nat_lt, slice_set, ◌||◌}
 use Rattle.std.specs.Prelude.{map as list_map}
-use Rattle.std.specs.List.{slice_get, list_any}
+use Rattle.std.specs.List.{slice_get}
 use Rattle.std.specs.Cmp.{nat_cmp_total}
 use Rattle.std.specs.FinSet as set
 use Rattle.std.specs.Ordering.{nat_cmp}
@@ -17,7 +17,6 @@ use Rattle.client_core.specs.declared.taken.Taken.{Taken}
 use Rattle.client_core.specs.declared.taken.Taken.TheVariants.{Ignored, Answer, Paged, Redirected, Busy, Held}
 use Rattle.client_core.specs.Clients.{ClientV, HasRoom}
 use Rattle.client_core.specs.Taking as taking
-use Rattle.world.specs.declared.event.Event.{Event}
 use Rattle.world.specs.declared.event.Event.TheVariants.{Take}
 use Rattle.world.specs.declared.state.ClientState.{ClientState}
 use Rattle.world.specs.Events as events
@@ -25,14 +24,14 @@ use Rattle.world.specs.Events.{seat_at, index_of, set_client, with_client, can_t
 use Rattle.world.specs.Histories as past
 use Rattle.world.specs.Histories.{History, AnsweredV, is_taken}
 use Rattle.world.proofs.Grow.{each_set}
-use Rattle.simulation.specs.Runs.{RunV, GoesOn, names}
+use Rattle.simulation.specs.Runs.{RunV, GoesOn}
 use Rattle.simulation.specs.Shows.{SimulationV, Shows, Happens, client_at, made_of}
 use Rattle.simulation.specs.Calls.{noting}
 use Rattle.simulation.proofs.Named.{await_same, still_named}
-use Rattle.simulation.proofs.Seats.{IsSeatOf, clients_of, seat_of, seats_set}
+use Rattle.simulation.proofs.Seats.{seats_set}
 use Rattle.simulation.proofs.Sending.{seat_going, seat_here}
 use Rattle.simulation.proofs.Sets.{insert_here, insert_apart, number_or_apart}
-use Rattle.simulation.proofs.Showing.{stepped, goes_on, one_longer}
+use Rattle.simulation.proofs.Showing.{goes_on, one_longer}
 
 -- the simulation once a client took a message
 abbrev pub taken_by : {X : Type 0} → SimulationV X → ℕ → taking.Took → ℕ → SimulationV X
@@ -83,12 +82,12 @@ or_false false b e = ap (λ x. x || false) (sym e)
 
 noted_one : (places : set.FinSet nat_cmp) (answered : List AnsweredV) (a : AnsweredV) → Notes places answered → Notes (set.insert places a.place) (answered ++ a ∷ [])
 noted_one places answered a notes q = elim (number_or_apart q a.place) [
-    | inl same ↦ subst (λ n. set.contains (set.insert places a.place) n ≡ is_taken (answered ++ a ∷ []) n) (sym same)
-        (insert_here nat_cmp_total exact_unsigned places a.place ∙ or_true (is_taken answered a.place) (a.place == a.place) (number_itself a.place)
-          ∙ sym (list_any-append (λ (b : AnsweredV). b.place == a.place) answered (a ∷ [])))
-    | inr differ ↦ insert_apart nat_cmp_total exact_unsigned places a.place q differ ∙ notes q ∙ or_false (is_taken answered q) (a.place == q) (number_apart q a.place differ)
-        ∙ sym (list_any-append (λ (b : AnsweredV). b.place == q) answered (a ∷ []))
-  ]
+  | inl same ↦ subst (λ n. set.contains (set.insert places a.place) n ≡ is_taken (answered ++ a ∷ []) n) (sym same)
+      (insert_here nat_cmp_total exact_unsigned places a.place ∙ or_true (is_taken answered a.place) (a.place == a.place) (number_itself a.place)
+      ∙ sym (list_any-append (λ (b : AnsweredV). b.place == a.place) answered (a ∷ [])))
+  | inr differ ↦ insert_apart nat_cmp_total exact_unsigned places a.place q differ ∙ notes q ∙ or_false (is_taken answered q) (a.place == q) (number_apart q a.place differ)
+      ∙ sym (list_any-append (λ (b : AnsweredV). b.place == q) answered (a ∷ []))
+]
 
 noted_answer : (h : History) (number : ℕ) (client : ClientV) (pending : Pending) (place : ℕ) (taken : Taken) (places : set.FinSet nat_cmp) → Notes places h.answered
     → Notes (noting places taken place) (past.after_answer h number client pending place taken).answered
@@ -119,25 +118,25 @@ module _ {X : Type 0} (seen : X → Contents) (images : X → Image → Type 0) 
   taken_at number place seat msg is going there meant few room =
       let sent : slice_get run.trace.world.sent place ≡ Some msg = ap (λ l. slice_get l place) shows.sent ∙ there in
       goes_on run (Take number place)
-        (set_client run.trace.world number (with_client seat (taking.take seat.client msg).client))
-        (past.after_take_of run.trace.past number seat.client place msg seat.client.pending)
-        (Shows seen images (taken_by old (index_of number) (taking.take seat.client msg) place))
-        (and_from _ _ (ap can_take is ∙ and_from _ _ (is_below seat.client.seq (2 ^ 63) few) (has_room_of seat.client.pending room)) (ap (is_for_client number) sent ∙ meant))
-        (ap (events.after_take run.trace.world number (slice_get run.trace.world.sent place)) is ∙ ap (events.after_take_of run.trace.world number seat) sent)
-        (ap (λ m. past.after_take run.trace.past number place m (seat_at run.trace.world.clients number)) sent ∙ ap (past.after_take run.trace.past number place (Some msg)) is)
-        (record {
-          setup = shows.setup;
-          moment = shows.moment;
-          count = one_longer run.events (Take number place) old.count shows.count;
-          servers = shows.servers;
-          clients = seats_set run.trace.world.clients (index_of number) (with_client seat (taking.take seat.client msg).client) ∙ ap (λ l. slice_set l (index_of number) (taking.take seat.client msg).client) shows.clients;
-          going_on = each_set (index_of number) (with_client seat (taking.take seat.client msg).client) shows.going_on going;
-          sent = shows.sent;
-          named = still_named old.waiting old.sent run.events shows.waiting shows.named (Take number place) (λ k. refl);
-          waiting = await_same old.waiting old.sent run.events shows.waiting shows.named (Take number place) (λ k. refl);
-          made = ap (list_map made_of) (take_made run.trace.past number seat.client place msg seat.client.pending) ∙ shows.made;
-          taken = noted_take run.trace.past number seat.client place msg seat.client.pending old.taken shows.taken;
-        })
+      (set_client run.trace.world number (with_client seat (taking.take seat.client msg).client))
+      (past.after_take_of run.trace.past number seat.client place msg seat.client.pending)
+      (Shows seen images (taken_by old (index_of number) (taking.take seat.client msg) place))
+      (and_from _ _ (ap can_take is ∙ and_from _ _ (is_below seat.client.seq (2 ^ 63) few) (has_room_of seat.client.pending room)) (ap (is_for_client number) sent ∙ meant))
+      (ap (events.after_take run.trace.world number (slice_get run.trace.world.sent place)) is ∙ ap (events.after_take_of run.trace.world number seat) sent)
+      (ap (λ m. past.after_take run.trace.past number place m (seat_at run.trace.world.clients number)) sent ∙ ap (past.after_take run.trace.past number place (Some msg)) is)
+      (record {
+        setup = shows.setup;
+        moment = shows.moment;
+        count = one_longer run.events (Take number place) old.count shows.count;
+        servers = shows.servers;
+        clients = seats_set run.trace.world.clients (index_of number) (with_client seat (taking.take seat.client msg).client) ∙ ap (λ l. slice_set l (index_of number) (taking.take seat.client msg).client) shows.clients;
+        going_on = each_set (index_of number) (with_client seat (taking.take seat.client msg).client) shows.going_on going;
+        sent = shows.sent;
+        named = still_named old.waiting old.sent run.events shows.waiting shows.named (Take number place) (λ k. refl);
+        waiting = await_same old.waiting old.sent run.events shows.waiting shows.named (Take number place) (λ k. refl);
+        made = ap (list_map made_of) (take_made run.trace.past number seat.client place msg seat.client.pending) ∙ shows.made;
+        taken = noted_take run.trace.past number seat.client place msg seat.client.pending old.taken shows.taken;
+      })
 
 pub take_happens : {X : Type 0} (seen : X → Contents) (images : X → Image → Type 0) (old : SimulationV X) (number place : ℕ) (client : ClientV) (msg : Msg) → client_at old.clients number ≡ Some client → slice_get old.sent place ≡ Some msg
     → is_for_client number (Some msg) ≡ true → client.seq < 2 ^ 63 → HasRoom client.pending
@@ -145,5 +144,5 @@ pub take_happens : {X : Type 0} (seen : X → Contents) (images : X → Image �
 take_happens seen images old number place client msg is there meant few room run shows =
     let s = seat_here seen images old run shows number client is in
     subst (λ c. GoesOn run (Take number place) (Shows seen images (taken_by old (index_of number) (taking.take c msg) place))) s.same
-      (taken_at seen images old run shows number place s.seat msg s.is (seat_going seen images old run shows number s.seat s.is) there meant
-        (subst (λ (c : ClientV). c.seq < 2 ^ 63) (sym s.same) few) (subst (λ (c : ClientV). HasRoom c.pending) (sym s.same) room))
+    (taken_at seen images old run shows number place s.seat msg s.is (seat_going seen images old run shows number s.seat s.is) there meant
+    (subst (λ (c : ClientV). c.seq < 2 ^ 63) (sym s.same) few) (subst (λ (c : ClientV). HasRoom c.pending) (sym s.same) room))

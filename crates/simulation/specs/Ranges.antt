@@ -4,7 +4,7 @@ use Rattle.mds_base.specs.declared.setup.Setup.{Setup}
 use Rattle.records.specs.declared.msg.Msg.{Msg}
 use Rattle.records.specs.declared.msg.Msg.TheVariants.{Request}
 use Rattle.client_core.specs.declared.client.Pending.{Pending}
-use Rattle.client_core.specs.Clients.{ClientV, dir_of}
+use Rattle.client_core.specs.Clients.{ClientV}
 use Rattle.node_store.specs.Serve.{IsMessage, IsWellMade}
 use Rattle.node_store.specs.Store.{Store}
 use Rattle.world.specs.Lists.{Each}

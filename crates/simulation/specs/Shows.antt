@@ -1,5 +1,5 @@
 -- What servers on their disks, clients and messages of one process show: a run so far.
-use Rattle.std.specs.Prelude.{◌≡◌, ℕ, min, ◌⊎◌, ◌&&◌, ◌==◌, ◌<◌, ◌≤◌, zero, suc, Bool, true, false, not, is_some, List, [], ◌∷◌, ◌++◌, length, Option, Some, None}
+use Rattle.std.specs.Prelude.{◌≡◌, ℕ, min, ◌⊎◌, ◌&&◌, ◌==◌, ◌<◌, ◌≤◌, zero, suc, Bool, true, false, not, is_some, List, [], length, Option, Some, None}
 use Rattle.std.specs.Prelude.{map as list_map}
 use Rattle.std.specs.List.{slice_get}
 use Rattle.std.specs.FinSet as set
@@ -22,7 +22,7 @@ use Rattle.simulation.specs.declared.made.Made.{Made}
 use Rattle.world.specs.Histories as past
 use Rattle.world.specs.Histories.{MadeV, is_taken}
 use Rattle.world.specs.Lists.{Each}
-use Rattle.world.specs.Worlds.{WorldV, store_of}
+use Rattle.world.specs.Worlds.{store_of}
 use Rattle.simulation.specs.Runs.{RunV, GoesOn, is_named}
 
 -- messages by their servers, and then by their places

@@ -1,12 +1,11 @@
 -- From where a run of servers on disks may start: disks that past runs left.
-use Rattle.std.specs.Prelude.{◌≡◌, ℕ, ◌⊎◌, Bool, true, is_some, List, [], ◌∷◌, length, Some}
+use Rattle.std.specs.Prelude.{◌≡◌, ℕ, true, is_some, List, [], ◌∷◌, length, Some}
 use Rattle.std.specs.List.{slice_get}
-use Rattle.std.specs.FinMap as maps
 use Rattle.mds_base.specs.declared.setup.Setup.{Setup}
 use Rattle.mds_base.specs.Entries.{Entries}
 use Rattle.mds_out.specs.Disk.{Image, Contents}
 use Rattle.node_core.specs.Serving.{replayed_all}
-use Rattle.node_store.specs.Stands.{new_store, opened_store}
+use Rattle.node_store.specs.Stands.{opened_store}
 use Rattle.node_store.specs.Store.{KeepsAny}
 use Rattle.world.specs.declared.event.Event.{Event}
 use Rattle.world.specs.declared.state.ServerState.{ServerState}

@@ -1,8 +1,7 @@
 -- What a restart makes of a server that is down.
-use Rattle.std.specs.Prelude.{◌≡◌, ℕ, true, is_some, List, take, length, Option, Some}
+use Rattle.std.specs.Prelude.{◌≡◌, ℕ, true, is_some, List, take, length, Some}
 use Rattle.mds_out.specs.Disk.{Image, Contents}
 use Rattle.mds_out.specs.Known.{OnTold}
-use Rattle.records.specs.declared.record.Record.{Record}
 use Rattle.node_core.specs.Nodes.{StoreV}
 use Rattle.node_core.specs.Serving.{restarted, replayed_all}
 use Rattle.node_store.specs.Serve.{IsAllOrNone}

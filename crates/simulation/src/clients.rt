@@ -76,11 +76,7 @@ impl<D: Disk> Simulation<D> {
 }
 
 // Sends a message, which waits for its server, and answers its place.
-fn send(
-    sent: &mut MsgList,
-    waiting: &mut BTreeSet<(u32, u64)>,
-    msg: Msg,
-) -> Result<u64, AllocError>
+fn send(sent: &mut MsgList, waiting: &mut BTreeSet<(u32, u64)>, msg: Msg) -> Result<u64, AllocError>
     ensures { IsSend result sent.old sent.new (set.from_list waiting.old.keys) (set.from_list waiting.new.keys) msg }
 {
     let place = sent.messages().len() as u64;

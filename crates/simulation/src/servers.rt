@@ -274,27 +274,19 @@ fn change(alloc: Global, item: &Record) -> Result<Option<Made>, AllocError>
 }
 
 // The entry of a lookup that a message asked for and one of its outputs answers, with the place of its answer.
-fn lookup(
-    alloc: Global,
-    msg: &Msg,
-    outputs: &[Msg],
-    place: u64,
-) -> Result<Option<Made>, AllocError>
+fn lookup(alloc: Global, msg: &Msg, outputs: &[Msg], place: u64) -> Result<Option<Made>, AllocError>
     ensures { IfOk result (λ made. made ≡ lookup_of msg.now outputs.now place) }
 {
     match (msg, outputs) {
-        (Msg::Request { ask, .. }, [Msg::Answer { reply, .. }]) => answered(alloc, ask, reply, place),
+        (Msg::Request { ask, .. }, [Msg::Answer { reply, .. }]) => answered(
+            alloc, ask, reply, place,
+        ),
         _ => Ok(None),
     }
 }
 
 // The entry of an ask that got a reply, which stands at a place, where it is a lookup.
-fn answered(
-    alloc: Global,
-    ask: &Ask,
-    reply: &Reply,
-    place: u64,
-) -> Result<Option<Made>, AllocError>
+fn answered(alloc: Global, ask: &Ask, reply: &Reply, place: u64) -> Result<Option<Made>, AllocError>
     ensures { IfOk result (λ made. made ≡ looked ask.now ask.now.call reply.now place) }
 {
     let Call::Lookup { .. } = &ask.call else {

@@ -58,15 +58,15 @@ impl<D: Disk> Model for Simulation<D> {
     ghost coded = { Prim.hlevel (codes, map.code, set.code, coded_attr, coded_row_key, coded_bits) };
 
     ghost view = { λ a. record {
-        setup = a.setup;
-        moment = a.moment;
-        count = a.count;
-        stores = a.stores.items;
-        clients = a.clients.items;
-        sent = a.sent;
-        waiting = set.from_list {R = waiting_cmp} a.waiting.keys;
-        made = a.made.items;
-        taken = set.from_list {R = nat_cmp} a.taken.keys
+      setup = a.setup;
+      moment = a.moment;
+      count = a.count;
+      stores = a.stores.items;
+      clients = a.clients.items;
+      sent = a.sent;
+      waiting = set.from_list {R = waiting_cmp} a.waiting.keys;
+      made = a.made.items;
+      taken = set.from_list {R = nat_cmp} a.taken.keys;
     } };
 
     ghost invariant = { λ a. AreRanges a.setup a.moment a.count a.stores.items a.clients.items a.sent × (a.back.items ≡ []) × (a.setup.servers ≤ vec_capacity a.back) };

@@ -72,11 +72,7 @@ fn taken(
 }
 
 // Brings server 0 up again, and has client 1 send its call again; the answer to that.
-fn retried(
-    rt: &impl Abort,
-    alloc: Global,
-    sim: &mut Simulation<Memory>,
-) -> Result<Served, Fail> {
+fn retried(rt: &impl Abort, alloc: Global, sim: &mut Simulation<Memory>) -> Result<Served, Fail> {
     assert!(rt; sim.count() < 1 << 20 && 0 < sim.setup().servers);
     assert!(rt; !sim.is_up(0));
     assert!(rt; matches!(sim.restart(alloc, 0)?, Restarted::Up));

@@ -1,4 +1,4 @@
-use Rattle.std.proofs.Common.{◌≡◌, ◌+◌, ap, length, refl, arith}
+use Rattle.std.proofs.Common.{◌+◌, refl, arith}
 use Rattle.std.specs.Vec.Iter.{into_iter_items}
 use Rattle.simulation.proofs.Raising.{raised_one, raised_below, raised_count, all_back, not_opened}
 use Rattle.simulation.proofs.opening.bring_up_all.Goals as goal

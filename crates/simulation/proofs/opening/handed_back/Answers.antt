@@ -1,6 +1,5 @@
-use Rattle.std.proofs.Common.{◌≡◌, ◌∙◌, ap, subst, sym, ◌+◌, ◌++◌, [], ◌∷◌, List, length, refl, append-nil, append_assoc, arith}
+use Rattle.std.proofs.Common.{◌≡◌, ◌∙◌, ap, sym, ◌++◌, [], ◌∷◌, List, length, refl, append-nil, append_assoc, arith}
 use Rattle.std.specs.Vec.Iter.{into_iter_items}
-use Rattle.simulation.specs.Openings.{IsDiskOf}
 use Rattle.simulation.proofs.Giving.{nothing_left, put_length}
 use Rattle.simulation.proofs.opening.handed_back.Goals as goal
 

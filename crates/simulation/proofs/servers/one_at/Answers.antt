@@ -1,4 +1,3 @@
-use Rattle.std.proofs.Common.{◌∙◌, ap, ◌+◌, ◌-◌, arith, take, drop}
 use Rattle.simulation.proofs.Changing.{one_there}
 use Rattle.simulation.proofs.servers.one_at.Goals as goal
 

@@ -19,4 +19,4 @@ returns g c =
     let up = up_at _ _ c.args.server c.index.result.now c.self.view_is is c.requires.up in
     ap (λ n. nat_le c.next_id-next.result ((n + 1) * 2 ^ 40 - 2 ^ 18)) c.from.ensures
     ∙ numbers_at _ _ c.args.server c.next_id-next.result c.index.result.now up.0 c.self.view_is is up.1 (c.next_id-next.ensures.next up.0 up.1)
-        ((c.next_id-next.ensures.own up.0 up.1).server' ∙ (c.self.invariant.0.numbers.at c.args.server c.index.result.now is).0)
+    ((c.next_id-next.ensures.own up.0 up.1).server' ∙ (c.self.invariant.0.numbers.at c.args.server c.index.result.now is).0)

@@ -1,4 +1,4 @@
-use Rattle.std.proofs.Common.{◌≡◌, ◌∙◌, ap, subst, sym, ◌++◌, [], List}
+use Rattle.std.proofs.Common.{◌∙◌, ap, subst, sym, ◌++◌, List}
 use Rattle.std.specs.Prelude.{map as list_map}
 use Rattle.mds_out.specs.Fused.{Fused}
 use Rattle.node_store.specs.Store.{Store}

@@ -22,9 +22,11 @@ invariant_of-self g c =
 pub invariant_of-self-2 : goal.invariant_of-self-2
 invariant_of-self-2 g c =
     let free = is_free _ _ c.args.client c.index_mut.result.now c.self.view_is c.requires.free c.index_mut.ensures.value in
-    let room = subst (λ (v : SimulationV (Fused g.row.D.Denot)). v.count < 2 ^ 20) (sym c.self.view_is) c.requires.room in
-    (ranged_issued _ _ _ _ _ _ c.self.invariant.0 room _ _ free.at.place c.args.call c.issue.new.self c.in_ok-request.request c.send.new.sent _ _ c.send.result c.requires.made c.in_ok-request.ensures.client c.in_ok-request.ensures.ok c.send.ensures,
-     c.self.invariant.1, c.self.invariant.2)
+    let room = subst (λ (v : SimulationV (Fused g.row.D.Denot)). v.count < 2 ^ 20) (sym c.self.view_is) c.requires.room in (
+      ranged_issued _ _ _ _ _ _ c.self.invariant.0 room _ _ free.at.place c.args.call c.issue.new.self c.in_ok-request.request c.send.new.sent _ _ c.send.result c.requires.made c.in_ok-request.ensures.client c.in_ok-request.ensures.ok c.send.ensures,
+      c.self.invariant.1,
+      c.self.invariant.2,
+    )
 
 pub returns-clause-place : goal.returns-clause-place
 returns-clause-place g c = send_place _ _ c.send.new.sent _ _ c.send.result c.in_ok-request.request c.self.view_is c.send.ensures

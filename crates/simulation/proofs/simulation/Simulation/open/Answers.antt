@@ -1,4 +1,4 @@
-use Rattle.std.proofs.Common.{◌≡◌, ◌<◌, ap, subst, sym, refl, ℕ, List, arith}
+use Rattle.std.proofs.Common.{◌<◌, ap, subst, sym, refl, List, arith}
 use Rattle.std.specs.FinSet as set
 use Rattle.std.specs.Ordering.{nat_cmp}
 use Rattle.mds_out.specs.Fused.{Fused}

@@ -20,9 +20,11 @@ pub invariant_of-self-2 : goal.invariant_of-self-2
 invariant_of-self-2 g c =
     let open_call = is_waiting _ _ c.args.client c.index_mut.result.now c.self.view_is c.requires.busy c.index_mut.ensures.value in
     let room = subst (λ (v : SimulationV (Fused g.row.D.Denot)). v.count < 2 ^ 20) (sym c.self.view_is) c.requires.room in
-    let again = sends_again _ c.resend.new.self c.in_ok-request.request open_call.pending open_call.busy c.in_ok-request.ensures.ok in
-    (ranged_resent _ _ _ _ _ _ c.self.invariant.0 room _ _ open_call.at.place open_call.pending c.resend.new.self c.in_ok-request.request c.send.new.sent _ _ c.send.result open_call.busy again.1 again.0 c.send.ensures,
-     c.self.invariant.1, c.self.invariant.2)
+    let again = sends_again _ c.resend.new.self c.in_ok-request.request open_call.pending open_call.busy c.in_ok-request.ensures.ok in (
+      ranged_resent _ _ _ _ _ _ c.self.invariant.0 room _ _ open_call.at.place open_call.pending c.resend.new.self c.in_ok-request.request c.send.new.sent _ _ c.send.result open_call.busy again.1 again.0 c.send.ensures,
+      c.self.invariant.1,
+      c.self.invariant.2,
+    )
 
 pub returns-clause-place : goal.returns-clause-place
 returns-clause-place g c = send_place _ _ c.send.new.sent _ _ c.send.result c.in_ok-request.request c.self.view_is c.send.ensures

@@ -1,7 +1,6 @@
 use Rattle.std.proofs.Common.{◌∙◌, sym, subst, ap, Err, ◌<◌, ◌^◌}
 use Rattle.mds_out.specs.Fault.{Rose}
 use Rattle.mds_out.specs.Fused.{Fused, fused_faults}
-use Rattle.node_store.specs.Store.{Store}
 use Rattle.simulation.specs.Fuses.{seen_by, images_by}
 use Rattle.simulation.specs.Shows.{SimulationV}
 use Rattle.simulation.proofs.Changing.{on_err, ranged_store, ranged_more, others_stay, rose_at}

@@ -1,4 +1,4 @@
-use Rattle.std.proofs.Common.{◌∙◌, sym, ap, subst, refl, get_or, ◌<◌, ◌^◌}
+use Rattle.std.proofs.Common.{◌∙◌, sym, ap, subst, get_or, ◌<◌, ◌^◌}
 use Rattle.mds_out.specs.Fused.{Fused}
 use Rattle.simulation.specs.Fuses.{seen_by, images_by}
 use Rattle.simulation.specs.Shows.{SimulationV}
