@@ -1,0 +1,111 @@
+-- Servers are brought up one after another, each on its disk.
+use Rattle.std.proofs.Common.{◌≡◌, ◌∙◌, sym, ap, subst, refl, ℕ, suc, ◌+◌, ◌-◌, List, [], ◌∷◌, ◌++◌, length, Some, inl, inr, append_assoc, append-nil, arith}
+use Rattle.std.specs.Prelude.{map as list_map}
+use Rattle.std.specs.List.{slice_get}
+use Rattle.std.proofs.lemmas.List.{length-append}
+use Rattle.mds_base.specs.declared.setup.Setup.{Setup}
+use Rattle.mds_base.specs.declared.store_fault.StoreFault.{StoreFault}
+use Rattle.mds_out.specs.Disk.{Image, Contents}
+use Rattle.mds_out.specs.Fused.{Fused}
+use Rattle.node_core.specs.Nodes.{StoreV}
+use Rattle.node_store.specs.Stands.{opened_store}
+use Rattle.node_store.specs.Store.{Store, StandsForAny}
+use Rattle.simulation.specs.Openings.{Paired, IsUpOn, IsDiskOf, IsHandedBack, IsOpenFault, IsNotOpened}
+use Rattle.simulation.proofs.Giving.{opened_back}
+use Rattle.simulation.proofs.Pairs.{paired_push, paired_join, paired_length, paired_self}
+
+-- the servers of the first disks are up, and these disks are left
+pub record AreRaised {D : Type 0} (seen : D → Contents) (images : D → Image → Type 0) (setup : Setup) (disks left : List D) (server : ℕ) (stores : List (Store (Fused D))) : Type 0 where
+  pub done : List D
+  pub split : done ++ left ≡ disks
+  pub count : server ≡ length done
+  pub up : Paired (IsUpOn seen images setup) 0 done stores
+
+module _ {D : Type 0} (seen : D → Contents) (images : D → Image → Type 0) (setup : Setup) (disks : List D) where
+  pub raised_none : (stores : List (Store (Fused D))) → stores ≡ [] → AreRaised seen images setup disks disks 0 stores
+  raised_none stores none = record { done = []; split = refl; count = refl; up = subst (Paired (IsUpOn seen images setup) 0 []) (sym none) tt }
+
+  pub raised_one : (left rest : List D) (server next : ℕ) (stores more : List (Store (Fused D))) (disk : D) (store : Store (Fused D)) → AreRaised seen images setup disks left server stores → left ≡ disk ∷ rest
+      → IsUpOn seen images setup server disk store → next ≡ server + 1 → more ≡ stores ++ store ∷ [] → AreRaised seen images setup disks rest next more
+  raised_one left rest server next stores more disk store so first is counted pushed = record {
+    done = so.done ++ disk ∷ [];
+    split = append_assoc so.done (disk ∷ []) rest ∙ ap (λ l. so.done ++ l) (sym first) ∙ so.split;
+    count = (let c = so.count in let n = length-append so.done (disk ∷ []) in omega arith);
+    up = subst (Paired (IsUpOn seen images setup) 0 (so.done ++ disk ∷ [])) (sym pushed) (paired_push (IsUpOn seen images setup) so.done stores disk store so.up (subst (λ k. IsUpOn seen images setup k disk store) so.count is));
+  }
+
+  pub raised_all : (left : List D) (server : ℕ) (stores : List (Store (Fused D))) → AreRaised seen images setup disks left server stores → left ≡ [] → Paired (IsUpOn seen images setup) 0 disks stores
+  raised_all left server stores so none =
+      let all : so.done ≡ disks = sym (append-nil so.done) ∙ ap (λ l. so.done ++ l) (sym none) ∙ so.split in
+      subst (λ l. Paired (IsUpOn seen images setup) 0 l stores) all so.up
+
+  -- a server is within its range while disks are left
+  pub raised_below : (left rest : List D) (server : ℕ) (stores : List (Store (Fused D))) (disk : D) → AreRaised seen images setup disks left server stores → left ≡ disk ∷ rest → server + 1 + length rest ≡ length disks
+  raised_below left rest server stores disk so first =
+      let n = ap length so.split in
+      let m = length-append so.done left in
+      let k = ap length first in
+      let c = so.count in
+      omega arith
+
+  pub raised_count : (left : List D) (server : ℕ) (stores : List (Store (Fused D))) → AreRaised seen images setup disks left server stores → length stores ≡ server
+  raised_count left server stores so = paired_length (IsUpOn seen images setup) 0 so.done stores so.up ∙ sym so.count
+
+-- The disks where a server was refused
+
+any_front : (s : ℕ) (setup : Setup) (stores more : List StoreV) (file : List ℕ) → StandsForAny s setup stores file → StandsForAny s setup (stores ++ more) file
+any_front s setup [] more file any = absurd any
+any_front s setup (store ∷ stores) more file any = elim any [ inl h ↦ inl h | inr h ↦ inr (any_front s setup stores more file h) ]
+
+get_beyond : {X : Type 0} (xs : List X) (x : X) (zs : List X) (k : ℕ) → slice_get (xs ++ x ∷ zs) (length xs + 1 + k) ≡ slice_get zs k
+get_beyond [] x zs k = let z : 0 + 1 + k ≡ suc k = omega arith in ap (slice_get (x ∷ zs)) z
+get_beyond (y ∷ xs) x zs k = let z : suc (length xs) + 1 + k ≡ suc (length xs + 1 + k) = omega arith in ap (slice_get (y ∷ xs ++ x ∷ zs)) z ∙ get_beyond xs x zs k
+
+get_next : {X : Type 0} (xs : List X) (x : X) (zs : List X) → slice_get (xs ++ x ∷ zs) (length xs) ≡ Some x
+get_next [] x zs = refl
+get_next (y ∷ xs) x zs = get_next xs x zs
+
+same_value : {X : Type 0} (x y : X) → Some x ≡ Some y → x ≡ y
+same_value x y e = cc
+
+module _ {D : Type 0} (seen : D → Contents) (images : D → Image → Type 0) (setup : Setup) (disks left rest : List D) (server : ℕ) (stores : List (Store (Fused D))) (disk new : D) (front back : List D)
+    (so : AreRaised seen images setup disks left server stores) (first : left ≡ disk ∷ rest) (out : Paired (λ k. IsDiskOf seen images) 0 stores front) (all : back ≡ front ++ new ∷ rest) where
+  whole : so.done ++ disk ∷ rest ≡ disks
+  whole = ap (λ l. so.done ++ l) (sym first) ∙ so.split
+
+  front_length : length front ≡ server
+  front_length = paired_length (λ k. IsDiskOf seen images) 0 stores front out ∙ paired_length (IsUpOn seen images setup) 0 so.done stores so.up ∙ sym so.count
+
+  pub all_back : IsHandedBack seen images setup server disk new → Paired (IsHandedBack seen images setup) 0 disks back
+  all_back is =
+      let n : server ≡ 0 + length so.done = let c = so.count in omega arith in
+      let one : Paired (IsHandedBack seen images setup) (0 + length so.done) (disk ∷ rest) (new ∷ rest) = (
+        subst (λ k. IsHandedBack seen images setup k disk new) n is,
+        paired_self (IsHandedBack seen images setup) (λ k x. record {
+          told = λ some. some;
+          left = λ some stores keeps image among. any_front k setup stores (list_map opened_store stores) (image 1) (keeps image among);
+        }) (0 + length so.done + 1) rest,
+      ) in
+      subst (λ l. Paired (IsHandedBack seen images setup) 0 l back) whole
+      (subst (Paired (IsHandedBack seen images setup) 0 (so.done ++ disk ∷ rest)) (sym all)
+      (paired_join (IsHandedBack seen images setup) 0 so.done (disk ∷ rest) front (new ∷ rest) (opened_back seen images setup 0 so.done stores front so.up out) one))
+
+  later_at : (s k : ℕ) → s ≡ server + 1 + k → slice_get back s ≡ slice_get disks s
+  later_at s k e =
+      let c = so.count in
+      let l = front_length in
+      let there : s ≡ length front + 1 + k = omega arith in
+      let here : length so.done + 1 + k ≡ s = omega arith in
+      ap (λ b. slice_get b s) all ∙ ap (slice_get (front ++ new ∷ rest)) there ∙ get_beyond front new rest k
+      ∙ sym (get_beyond so.done disk rest k) ∙ ap (slice_get (so.done ++ disk ∷ rest)) here ∙ ap (λ d. slice_get d s) whole
+
+  pub not_opened : (faults : D → ℕ) (fault : StoreFault) → IsHandedBack seen images setup server disk new → IsOpenFault faults seen setup server disk new fault → IsNotOpened faults seen setup disks back server fault
+  not_opened faults fault is cause = record {
+    count = paired_length (IsHandedBack seen images setup) 0 disks back (all_back is);
+    within = (let n = raised_below seen images setup disks left rest server stores disk so first in omega arith);
+    later = λ s lt. later_at s (s - (server + 1)) (omega (arith, lt));
+    cause = λ before now was is.
+        let old : disk ≡ before = same_value disk before (sym (get_next so.done disk rest) ∙ ap (slice_get (so.done ++ disk ∷ rest)) (sym so.count) ∙ ap (λ d. slice_get d server) whole ∙ was) in
+        let got : new ≡ now = same_value new now (sym (get_next front new rest) ∙ ap (slice_get (front ++ new ∷ rest)) front_length ∙ ap (λ b. slice_get b server) (sym all) ∙ is) in
+        subst (λ x. IsOpenFault faults seen setup server x now fault) old (subst (λ x. IsOpenFault faults seen setup server disk x fault) got cause);
+  }

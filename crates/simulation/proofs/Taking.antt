@@ -1,0 +1,148 @@
+-- A client takes a message.
+use Rattle.std.proofs.Common.{◌≡◌, ◌∙◌, sym, ap, subst, refl, ℕ, ◌+◌, ◌<◌, ◌^◌, ◌==◌, Bool, true, false, List, [], ◌∷◌, ◌++◌, Option, Some, None, inl, inr, arith}
+use Rattle.std.specs.Prelude.{nat_lt, slice_set, ◌||◌}
+use Rattle.std.specs.Prelude.{map as list_map}
+use Rattle.std.specs.List.{slice_get}
+use Rattle.std.specs.Cmp.{nat_cmp_total}
+use Rattle.std.specs.FinSet as set
+use Rattle.std.specs.Ordering.{nat_cmp}
+use Rattle.std.proofs.lemmas.Bool.{and_from}
+use Rattle.std.proofs.lemmas.Bool.Decides.{nat_tests}
+use Rattle.std.proofs.lemmas.List.Folds.{list_any-append}
+use Rattle.std.proofs.lemmas.Map.Lookups.{exact_unsigned}
+use Rattle.mds_out.specs.Disk.{Image, Contents}
+use Rattle.records.specs.declared.msg.Msg.{Msg}
+use Rattle.client_core.specs.declared.client.Pending.{Pending}
+use Rattle.client_core.specs.declared.taken.Taken.{Taken}
+use Rattle.client_core.specs.declared.taken.Taken.TheVariants.{Ignored, Answer, Paged, Redirected, Busy, Held}
+use Rattle.client_core.specs.Clients.{ClientV, HasRoom}
+use Rattle.client_core.specs.Taking as taking
+use Rattle.world.specs.declared.event.Event.TheVariants.{Take}
+use Rattle.world.specs.declared.state.ClientState.{ClientState}
+use Rattle.world.specs.Events as events
+use Rattle.world.specs.Events.{seat_at, index_of, set_client, with_client, can_take, has_room, is_for_client}
+use Rattle.world.specs.Histories as past
+use Rattle.world.specs.Histories.{History, AnsweredV, is_taken}
+use Rattle.world.proofs.Grow.{each_set}
+use Rattle.simulation.specs.Runs.{RunV, GoesOn}
+use Rattle.simulation.specs.Shows.{SimulationV, Shows, Happens, client_at, made_of}
+use Rattle.simulation.specs.Calls.{noting}
+use Rattle.simulation.proofs.Named.{await_same, still_named}
+use Rattle.simulation.proofs.Seats.{seats_set}
+use Rattle.simulation.proofs.Sending.{seat_going, seat_here}
+use Rattle.simulation.proofs.Sets.{insert_here, insert_apart, number_or_apart}
+use Rattle.simulation.proofs.Showing.{goes_on, one_longer}
+
+-- the simulation once a client took a message
+abbrev pub taken_by : {X : Type 0} → SimulationV X → ℕ → taking.Took → ℕ → SimulationV X
+taken_by old k took place =
+    record {
+      setup = old.setup;
+      moment = old.moment;
+      count = old.count + 1;
+      stores = old.stores;
+      clients = slice_set old.clients k took.client;
+      sent = old.sent;
+      waiting = old.waiting;
+      made = old.made;
+      taken = noting old.taken took.taken place;
+    }
+
+-- the history once a client took a message
+
+answer_made : (h : History) (number : ℕ) (client : ClientV) (pending : Pending) (place : ℕ) (taken : Taken) → (past.after_answer h number client pending place taken).made ≡ h.made
+answer_made h number client pending place Ignored = refl
+answer_made h number client pending place (Answer reply) = refl
+answer_made h number client pending place Paged = refl
+answer_made h number client pending place (Redirected part) = refl
+answer_made h number client pending place (Busy part) = refl
+answer_made h number client pending place (Held until) = refl
+
+take_made : (h : History) (number : ℕ) (client : ClientV) (place : ℕ) (msg : Msg) (pending : Option Pending) → (past.after_take_of h number client place msg pending).made ≡ h.made
+take_made h number client place msg None = refl
+take_made h number client place msg (Some pending) = answer_made h number client pending place (taking.take_pending client pending msg).taken
+
+-- the places that a simulation noted are those of a history
+abbrev Notes : set.FinSet nat_cmp → List AnsweredV → Type 0
+Notes places answered = (q : ℕ) → set.contains places q ≡ is_taken answered q
+
+number_itself : (a : ℕ) → (a == a) ≡ true
+number_itself a = grind (arith, nat_tests)
+
+number_apart : (a b : ℕ) → (a ≡ b → ⊥) → (b == a) ≡ false
+number_apart a b differ = grind (arith, nat_tests, differ)
+
+or_true : (a b : Bool) → b ≡ true → true ≡ (a || (b || false))
+or_true true b e = refl
+or_true false b e = ap (λ x. x || false) (sym e)
+
+or_false : (a b : Bool) → b ≡ false → a ≡ (a || (b || false))
+or_false true b e = refl
+or_false false b e = ap (λ x. x || false) (sym e)
+
+noted_one : (places : set.FinSet nat_cmp) (answered : List AnsweredV) (a : AnsweredV) → Notes places answered → Notes (set.insert places a.place) (answered ++ a ∷ [])
+noted_one places answered a notes q = elim (number_or_apart q a.place) [
+  | inl same ↦ subst (λ n. set.contains (set.insert places a.place) n ≡ is_taken (answered ++ a ∷ []) n) (sym same)
+      (insert_here nat_cmp_total exact_unsigned places a.place ∙ or_true (is_taken answered a.place) (a.place == a.place) (number_itself a.place)
+      ∙ sym (list_any-append (λ (b : AnsweredV). b.place == a.place) answered (a ∷ [])))
+  | inr differ ↦ insert_apart nat_cmp_total exact_unsigned places a.place q differ ∙ notes q ∙ or_false (is_taken answered q) (a.place == q) (number_apart q a.place differ)
+      ∙ sym (list_any-append (λ (b : AnsweredV). b.place == q) answered (a ∷ []))
+]
+
+noted_answer : (h : History) (number : ℕ) (client : ClientV) (pending : Pending) (place : ℕ) (taken : Taken) (places : set.FinSet nat_cmp) → Notes places h.answered
+    → Notes (noting places taken place) (past.after_answer h number client pending place taken).answered
+noted_answer h number client pending place (Answer reply) places notes =
+    noted_one places h.answered (record { client = number; seq = client.seq; call = pending.call; reply = reply; place = place; at = h.count }) notes
+noted_answer h number client pending place Ignored places notes = notes
+noted_answer h number client pending place Paged places notes = notes
+noted_answer h number client pending place (Redirected part) places notes = notes
+noted_answer h number client pending place (Busy part) places notes = notes
+noted_answer h number client pending place (Held until) places notes = notes
+
+noted_take : (h : History) (number : ℕ) (client : ClientV) (place : ℕ) (msg : Msg) (pending : Option Pending) (places : set.FinSet nat_cmp) → Notes places h.answered
+    → Notes (noting places (taking.take_at client pending msg).taken place) (past.after_take_of h number client place msg pending).answered
+noted_take h number client place msg None places notes = notes
+noted_take h number client place msg (Some pending) places notes = noted_answer h number client pending place (taking.take_pending client pending msg).taken places notes
+
+is_below : (a b : ℕ) → a < b → nat_lt a b ≡ true
+is_below a b e = grind (arith, nat_tests)
+
+has_room_of : (p : Option Pending) → HasRoom p → has_room p ≡ true
+has_room_of None room = refl
+has_room_of (Some pending) room = is_below pending.attempt (2 ^ 31) room
+
+module _ {X : Type 0} (seen : X → Contents) (images : X → Image → Type 0) (old : SimulationV X) (run : RunV) (shows : Shows seen images old run) where
+  taken_at : (number place : ℕ) (seat : ClientState) (msg : Msg) → seat_at run.trace.world.clients number ≡ Some seat → seat.quit ≡ false → slice_get old.sent place ≡ Some msg → is_for_client number (Some msg) ≡ true
+      → seat.client.seq < 2 ^ 63 → HasRoom seat.client.pending
+      → GoesOn run (Take number place) (Shows seen images (taken_by old (index_of number) (taking.take seat.client msg) place))
+  taken_at number place seat msg is going there meant few room =
+      let sent : slice_get run.trace.world.sent place ≡ Some msg = ap (λ l. slice_get l place) shows.sent ∙ there in
+      goes_on run (Take number place)
+      (set_client run.trace.world number (with_client seat (taking.take seat.client msg).client))
+      (past.after_take_of run.trace.past number seat.client place msg seat.client.pending)
+      (Shows seen images (taken_by old (index_of number) (taking.take seat.client msg) place))
+      (and_from _ _ (ap can_take is ∙ and_from _ _ (is_below seat.client.seq (2 ^ 63) few) (has_room_of seat.client.pending room)) (ap (is_for_client number) sent ∙ meant))
+      (ap (events.after_take run.trace.world number (slice_get run.trace.world.sent place)) is ∙ ap (events.after_take_of run.trace.world number seat) sent)
+      (ap (λ m. past.after_take run.trace.past number place m (seat_at run.trace.world.clients number)) sent ∙ ap (past.after_take run.trace.past number place (Some msg)) is)
+      (record {
+        setup = shows.setup;
+        moment = shows.moment;
+        count = one_longer run.events (Take number place) old.count shows.count;
+        servers = shows.servers;
+        clients = seats_set run.trace.world.clients (index_of number) (with_client seat (taking.take seat.client msg).client) ∙ ap (λ l. slice_set l (index_of number) (taking.take seat.client msg).client) shows.clients;
+        going_on = each_set (index_of number) (with_client seat (taking.take seat.client msg).client) shows.going_on going;
+        sent = shows.sent;
+        named = still_named old.waiting old.sent run.events shows.waiting shows.named (Take number place) (λ k. refl);
+        waiting = await_same old.waiting old.sent run.events shows.waiting shows.named (Take number place) (λ k. refl);
+        made = ap (list_map made_of) (take_made run.trace.past number seat.client place msg seat.client.pending) ∙ shows.made;
+        taken = noted_take run.trace.past number seat.client place msg seat.client.pending old.taken shows.taken;
+      })
+
+pub take_happens : {X : Type 0} (seen : X → Contents) (images : X → Image → Type 0) (old : SimulationV X) (number place : ℕ) (client : ClientV) (msg : Msg) → client_at old.clients number ≡ Some client → slice_get old.sent place ≡ Some msg
+    → is_for_client number (Some msg) ≡ true → client.seq < 2 ^ 63 → HasRoom client.pending
+    → Happens seen images old (taken_by old (index_of number) (taking.take client msg) place) (Take number place)
+take_happens seen images old number place client msg is there meant few room run shows =
+    let s = seat_here seen images old run shows number client is in
+    subst (λ c. GoesOn run (Take number place) (Shows seen images (taken_by old (index_of number) (taking.take c msg) place))) s.same
+    (taken_at seen images old run shows number place s.seat msg s.is (seat_going seen images old run shows number s.seat s.is) there meant
+    (subst (λ (c : ClientV). c.seq < 2 ^ 63) (sym s.same) few) (subst (λ (c : ClientV). HasRoom c.pending) (sym s.same) room))

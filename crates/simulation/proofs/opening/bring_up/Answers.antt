@@ -1,0 +1,22 @@
+use Rattle.simulation.proofs.Opened.{handed, fused_up, open_fault}
+use Rattle.simulation.proofs.opening.bring_up.Goals as goal
+
+pub returns-in-Ok-clause-up : goal.returns-in-Ok-clause-up
+returns-in-Ok-clause-up g c =
+    let d = g.D.Disk in
+    let e = c.in-Ok.ensures in
+    let s = c.in-Ok.store in
+    fused_up d.seen d.images c.args.setup c.args.server c.args.disk s c.fused.result c.fused.ensures e.named e.sure e.opened
+    (handed d.seen d.images d.moment d.images_since g.met.D.Disk.counts_now c.args.setup c.args.server c.args.disk s.disk e.told e.any_moment)
+
+pub returns-in-Err-clause-back : goal.returns-in-Err-clause-back
+returns-in-Err-clause-back g c =
+    let d = g.D.Disk in
+    let e = c.in-Err.ensures in
+    handed d.seen d.images d.moment d.images_since g.met.D.Disk.counts_now c.args.setup c.args.server c.args.disk c.in-Err.refused.disk e.told e.any_moment
+
+pub returns-in-Err-clause-cause : goal.returns-in-Err-clause-cause
+returns-in-Err-clause-cause g c =
+    let d = g.D.Disk in
+    let e = c.in-Err.ensures in
+    open_fault d.faults d.seen c.args.setup c.args.server c.args.disk c.in-Err.refused.disk c.in-Err.refused.fault e.refused e.device

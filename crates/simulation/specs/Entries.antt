@@ -1,0 +1,48 @@
+-- The entries that a server makes, as the program keeps them.
+use Rattle.std.specs.Prelude.{ℕ, List, [], ◌∷◌, ◌++◌, Option, Some, None}
+use Rattle.std.specs.List.{filter_map}
+use Rattle.mds_base.specs.declared.ask.Ask.{Ask}
+use Rattle.mds_base.specs.declared.call.Call.{Call}
+use Rattle.mds_base.specs.declared.call.Call.TheVariants.{Lookup}
+use Rattle.mds_base.specs.declared.reply.Reply.{Reply}
+use Rattle.mds_base.specs.declared.reply.Reply.TheVariants.{Said}
+use Rattle.records.specs.declared.msg.Msg.{Msg}
+use Rattle.records.specs.declared.msg.Msg.TheVariants.{Request, Answer}
+use Rattle.records.specs.declared.record.Record.{Record}
+use Rattle.records.specs.declared.record.Record.TheVariants as records
+use Rattle.simulation.specs.declared.made.Kind.TheVariants as kinds
+use Rattle.simulation.specs.declared.made.Made.{Made}
+use Rattle.simulation.specs.declared.servers.Served.{Served}
+use Rattle.simulation.specs.declared.servers.Served.TheVariants as serves
+
+-- the entry of the change that a record tells of
+abbrev pub change_of : Record → Option Made
+change_of (records.Served client seq part call said) = Some (record { entry = record { client = client; seq = seq; call = call; reply = Said said }; kind = kinds.Change })
+change_of item = None
+
+abbrev pub changes_of : List Record → List Made
+changes_of items = filter_map change_of items
+
+-- the entry of a lookup that got this reply, which stands at this place
+abbrev pub looked : Ask → Call → Reply → ℕ → Option Made
+looked ask (Lookup dir name) reply place = Some (record { entry = record { client = ask.client; seq = ask.seq; call = ask.call; reply = reply }; kind = kinds.Lookup place })
+looked ask call reply place = None
+
+-- that of a request that was answered by one message
+abbrev pub looked_by : Ask → List Msg → ℕ → Option Made
+looked_by ask (Answer client seq attempt reply ∷ []) place = looked ask ask.call reply place
+looked_by ask outputs place = None
+
+abbrev pub lookup_of : Msg → List Msg → ℕ → Option Made
+lookup_of (Request server ask cursor) outputs place = looked_by ask outputs place
+lookup_of msg outputs place = None
+
+-- a list with one element more, where there is one
+abbrev pub with_one : {X : Type 0} → List X → Option X → List X
+with_one xs None = xs
+with_one xs (Some x) = xs ++ x ∷ []
+
+-- how a Serve ended that was done, by what it sends from this place on
+abbrev pub ended_by : List Msg → ℕ → Served
+ended_by [] place = serves.Silent
+ended_by (msg ∷ msgs) place = serves.Answered place

@@ -1,0 +1,9 @@
+pub mod Calls
+pub mod Entries
+pub mod Fuses
+pub mod Openings
+pub mod Ranges
+pub mod Runs
+pub mod Shows
+pub mod Starts
+pub mod Stores

@@ -1,0 +1,306 @@
+//! The events of a server.
+ghost use Rattle.std.specs.Prelude.{◌≡◌, ◌≢◌, ◌++◌, ◌∷◌, [], ℕ, ◌+◌, ◌<◌, ◌^◌, true, length, Ok, Some, None, IfOk, IfErr, OnOk, OnErr, IsErrOf};
+ghost use Rattle.mds_base.specs.declared.store_fault.StoreFault.TheVariants as StoreFault;
+ghost use Rattle.std.specs.FinSet as set;
+ghost use Rattle.std.specs.List.{slice_get};
+ghost use Rattle.mds_out.specs.Fault.{Rose};
+ghost use Rattle.mds_out.specs.Fused.{fused_faults};
+ghost use Rattle.node_core.specs.Nodes.{StoreV};
+ghost use Rattle.node_store.specs.Reading.{IsRefusal};
+ghost use Rattle.node_store.specs.Store.{IsDownAt};
+ghost use Rattle.records.specs.declared.msg.Msg.{Msg};
+ghost use Rattle.world.specs.declared.event.Event.TheVariants as Event;
+ghost use Rattle.world.specs.declared.event.StopCause.TheVariants as StopCause;
+ghost use Rattle.simulation.specs.Calls.{CanServe, CanMiss, Serves, Restarts, RoseAt, OthersStay, faults_at};
+ghost use Rattle.simulation.specs.Entries.{change_of, changes_of, looked, lookup_of, with_one, ended_by};
+ghost use Rattle.simulation.specs.Fuses.{seen_by, images_by};
+ghost use Rattle.simulation.specs.Runs.{RunV};
+ghost use Rattle.simulation.specs.Shows.{Happens, Shows, StaysNear, server_for, waiting_cmp};
+ghost use Rattle.simulation.specs.Shows as shown;
+ghost use Rattle.simulation.specs.Stores.{IsRevived, IsDownStill};
+
+use crate::made::{Kind, Made};
+use crate::simulation::Simulation;
+use mds_base::{Ask, Call, Entry, Reply, StoreFault};
+use mds_out::{Disk, Fuse};
+use node_store::NodeStore;
+use records::{Handled, Msg, MsgList, Record, RecordList};
+use std::alloc::{AllocError, Global};
+use std::collections::BTreeSet;
+
+/// How a Serve ended.
+#[derive(Clone, Copy, Debug, PartialEq, Eq)]
+pub enum Served {
+    /// It was done, and its first message stands at this place.
+    Answered {
+        /// The place.
+        place: u64,
+    },
+    /// It was done, and sent nothing.
+    Silent,
+    /// The device failed, and the server is down; its records, if there are any, are in doubt.
+    Stopped,
+}
+
+/// How a restart ended.
+#[derive(Clone, Copy, Debug, PartialEq, Eq)]
+pub enum Restarted {
+    /// The server is up.
+    Up,
+    /// The device failed, and the server is still down.
+    Stopped,
+}
+
+impl<D: Disk> Simulation<D> {
+    /// Has the server of a message serve it.
+    pub fn serve(&mut self, alloc: Global, place: u64) -> Result<Served, AllocError>
+        requires room { self.old.count < 2 ^ 20 }
+        requires message { CanServe self.old place }
+        ensures ok { IfOk result (λ served. (server : ℕ) → server_for (slice_get self.old.sent place) ≡ Some server → Serves (seen_by D.seen) (images_by D.images) self.old self.new server place served) }
+        ensures err { OnErr result (StaysNear (seen_by D.seen) (images_by D.images) self.old self.new) }
+        ensures rose { (server : ℕ) → server_for (slice_get self.old.sent place) ≡ Some server → result ≡ Ok Served.Stopped → RoseAt (fused_faults D.faults) self.old self.new server }
+        ensures others { (server : ℕ) → server_for (slice_get self.old.sent place) ≡ Some server → OthersStay self.old self.new server }
+        ensures setup { self.new.setup ≡ self.old.setup }
+    {
+        let Some(server) = self.server_for(place) else {
+            unreachable!();
+        };
+        let msgs = one_at(self.sent.messages(), place);
+        match self.stores[server as usize].serve_batch(alloc, msgs, self.moment, 0) {
+            Ok(handled) => {
+                let served = hand_out(alloc, &mut self.sent, &mut self.made, place, handled)?;
+                no_longer_waits(&mut self.waiting, server, place);
+                self.count += 1;
+                Ok(served)
+            }
+            Err(fault) => match fault {
+                StoreFault::Device => {
+                    no_longer_waits(&mut self.waiting, server, place);
+                    self.count += 1;
+                    Ok(Served::Stopped)
+                }
+                _ => Err(AllocError),
+            },
+        }
+    }
+
+    /// A message meets a server that is down.
+    pub fn miss(&mut self, place: u64)
+        requires room { self.old.count < 2 ^ 20 }
+        requires message { CanMiss self.old place }
+        ensures happens { Happens (seen_by D.seen) (images_by D.images) self.old self.new (Event.Miss place) }
+        ensures after { self.new ≡ record self.old { count = self.old.count + 1 } }
+    {
+        let _ = place;
+        self.count += 1;
+    }
+
+    /// Stops a server that is up.
+    pub fn stop(&mut self, server: u32)
+        requires room { self.old.count < 2 ^ 20 }
+        requires up { (server < self.old.setup.servers) × (shown.is_up self.old server ≡ true) }
+        ensures happens { Happens (seen_by D.seen) (images_by D.images) self.old self.new (Event.Stop server StopCause.Asked) }
+        ensures faults { faults_at (fused_faults D.faults) self.new server ≡ faults_at (fused_faults D.faults) self.old server }
+        ensures others { OthersStay self.old self.new server }
+        ensures sent { self.new.sent ≡ self.old.sent }
+        ensures setup { self.new.setup ≡ self.old.setup }
+    {
+        self.stores[server as usize].halt();
+        self.count += 1;
+    }
+
+    /// Mends the fuse of a server's disk, and brings the server up again.
+    pub fn restart(&mut self, alloc: Global, server: u32) -> Result<Restarted, StoreFault>
+        requires room { self.old.count < 2 ^ 20 }
+        requires down { (server < self.old.setup.servers) × (shown.is_up self.old server ≢ true) }
+        ensures ok { IfOk result (λ restarted. Restarts (seen_by D.seen) (images_by D.images) self.old self.new server restarted) }
+        ensures err { OnErr result (StaysNear (seen_by D.seen) (images_by D.images) self.old self.new) }
+        ensures rose { result ≡ Ok Restarted.Stopped → RoseAt (fused_faults D.faults) self.old self.new server }
+
+        // Where a run is shown, it is refused for want of memory alone.
+        ensures fault { IfErr result (λ fault. (run : RunV) → Shows (seen_by D.seen) (images_by D.images) self.old run → fault ≡ StoreFault.OutOfMemory) }
+        ensures others { OthersStay self.old self.new server }
+        ensures sent { self.new.sent ≡ self.old.sent }
+        ensures setup { self.new.setup ≡ self.old.setup }
+    {
+        let moment = self.moment;
+        let store = &mut self.stores[server as usize];
+        store.mend();
+        match revive(alloc, store, moment) {
+            Ok(mut kept) => {
+                self.made.append(&mut kept)?;
+                self.count += 1;
+                Ok(Restarted::Up)
+            }
+            Err(fault) => match fault {
+                StoreFault::Device => {
+                    self.count += 1;
+                    Ok(Restarted::Stopped)
+                }
+                fault => Err(fault),
+            },
+        }
+    }
+}
+
+// The message at a place was served.
+fn no_longer_waits(waiting: &mut BTreeSet<(u32, u64)>, server: u32, place: u64)
+    ensures { set.from_list {R = waiting_cmp} waiting.new.keys ≡ set.remove (set.from_list waiting.old.keys) (server, place) }
+{
+    let _ = waiting.remove(&(server, place));
+}
+
+// Restarts a server, the fuse of whose disk is not armed, and answers the entries of the records that were kept.
+fn revive<D: Disk>(
+    alloc: Global,
+    store: &mut NodeStore<Fuse<D>>,
+    moment: u64,
+) -> Result<Vec<Made>, StoreFault>
+    requires unarmed { store.old.disk.left ≡ None }
+    requires down { store.old.up ≡ None }
+    requires moment { moment < 2 ^ 43 }
+    ensures ok { IfOk result (λ made. IsRevived (seen_by D.seen) (images_by D.images) store.old store.new moment made.items) }
+    ensures err { OnErr result (IsDownStill (seen_by D.seen) (images_by D.images) store.old store.new) }
+    ensures sound { IfErr result (λ fault. (owed : StoreV) → IsDownAt (seen_by D.seen) (images_by D.images) store.old owed → IsRefusal (λ _ _ _. ⊥) (D.seen store.new.disk.inner 1) fault) }
+    ensures same { (store.new.server ≡ store.old.server) × (store.new.setup ≡ store.old.setup) }
+    ensures rose { IsErrOf result StoreFault.Device → Rose (fused_faults D.faults store.old.disk) (fused_faults D.faults store.new.disk) }
+{
+    let made = changes(alloc, store.doubt())?;
+    match store.restart(alloc, moment) {
+        Ok(kept) => {
+            if kept == 0 {
+                return Ok(Vec::new(alloc));
+            }
+            Ok(made)
+        }
+        Err(fault) => Err(fault),
+    }
+}
+
+// The message at a place, alone.
+fn one_at(msgs: &[Msg], place: u64) -> &[Msg]
+    requires { place < length msgs.now }
+    ensures { (msg : Msg) → slice_get msgs.now place ≡ Some msg → result.now ≡ msg ∷ [] }
+{
+    let at = place as usize;
+    &msgs[at..at + 1]
+}
+
+// Sends what a Serve of the message at a place handed out, and makes its entries.
+fn hand_out(
+    alloc: Global,
+    sent: &mut MsgList,
+    made: &mut Vec<Made>,
+    place: u64,
+    handled: Handled,
+) -> Result<Served, AllocError>
+    requires { place < length sent.old }
+    ensures sent { OnOk result (sent.new ≡ sent.old ++ handled.outputs) }
+    ensures made { OnOk result ((msg : Msg) → slice_get sent.old place ≡ Some msg → made.new.items ≡ with_one (made.old.items ++ changes_of handled.records) (lookup_of msg handled.outputs (length sent.old))) }
+    ensures served { IfOk result (λ served. served ≡ ended_by handled.outputs (length sent.old)) }
+    ensures err { OnErr result (sent.new ≡ sent.old) }
+{
+    let first = sent.messages().len() as u64;
+    let Handled {
+        records,
+        mut outputs,
+    } = handled;
+    let mut entries = changes(alloc, &records)?;
+    let asked = &sent.messages()[place as usize];
+    let answered = lookup(alloc, asked, outputs.messages(), first)?;
+    made.append(&mut entries)?;
+    add(made, answered)?;
+    let served = ended(outputs.messages(), first);
+    sent.append(&mut outputs)?;
+    Ok(served)
+}
+
+// How a Serve ended that was done, by what it sends from a place on.
+fn ended(outputs: &[Msg], first: u64) -> Served
+    ensures { result ≡ ended_by outputs.now first }
+{
+    match outputs {
+        [] => Served::Silent,
+        _ => Served::Answered { place: first },
+    }
+}
+
+// The entries of the changes that records tell of.
+fn changes(alloc: Global, records: &RecordList) -> Result<Vec<Made>, AllocError>
+    ensures { IfOk result (λ made. made.items ≡ changes_of records.now) }
+{
+    let mut made = Vec::new(alloc);
+    for item in records.records() {
+        let entry = change(alloc, item)?;
+        add(&mut made, entry)?;
+    }
+    Ok(made)
+}
+
+// Adds an entry, where there is one.
+fn add(made: &mut Vec<Made>, entry: Option<Made>) -> Result<(), AllocError>
+    ensures { OnOk result (made.new.items ≡ with_one made.old.items entry) }
+{
+    if let Some(entry) = entry {
+        made.push(entry)?;
+    }
+    Ok(())
+}
+
+// The entry of the change that a record tells of.
+fn change(alloc: Global, item: &Record) -> Result<Option<Made>, AllocError>
+    ensures { IfOk result (λ made. made ≡ change_of item.now) }
+{
+    let Record::Served {
+        client,
+        seq,
+        call,
+        said,
+        ..
+    } = item
+    else {
+        return Ok(None);
+    };
+    let call = call.copy(alloc)?;
+    Ok(Some(Made {
+        entry: Entry {
+            client: *client,
+            seq: *seq,
+            call,
+            reply: Reply::Said(*said),
+        },
+        kind: Kind::Change,
+    }))
+}
+
+// The entry of a lookup that a message asked for and one of its outputs answers, with the place of its answer.
+fn lookup(alloc: Global, msg: &Msg, outputs: &[Msg], place: u64) -> Result<Option<Made>, AllocError>
+    ensures { IfOk result (λ made. made ≡ lookup_of msg.now outputs.now place) }
+{
+    match (msg, outputs) {
+        (Msg::Request { ask, .. }, [Msg::Answer { reply, .. }]) => answered(
+            alloc, ask, reply, place,
+        ),
+        _ => Ok(None),
+    }
+}
+
+// The entry of an ask that got a reply, which stands at a place, where it is a lookup.
+fn answered(alloc: Global, ask: &Ask, reply: &Reply, place: u64) -> Result<Option<Made>, AllocError>
+    ensures { IfOk result (λ made. made ≡ looked ask.now ask.now.call reply.now place) }
+{
+    let Call::Lookup { .. } = &ask.call else {
+        return Ok(None);
+    };
+    let call = ask.call.copy(alloc)?;
+    let reply = reply.copy(alloc)?;
+    Ok(Some(Made {
+        entry: Entry {
+            client: ask.client,
+            seq: ask.seq,
+            call,
+            reply,
+        },
+        kind: Kind::Lookup { place },
+    }))
+}
