@@ -1,9 +1,9 @@
 -- From what the calls of a server on a disk gave to what those of the simulation say.
-use Rattle.std.proofs.Common.{◌≡◌, ◌≢◌, ◌∙◌, sym, ap, subst, refl, ℕ, zero, suc, ◌+◌, ◌-◌, ◌<◌, ◌^◌, take, drop, true, is_some, List, [], ◌∷◌, ◌++◌, length, get_or, Option, Some, None, Result, Ok, Err, OnErr, arith}
+use Rattle.std.proofs.Common.{◌≡◌, ◌≢◌, ◌∙◌, sym, ap, subst, refl, ℕ, zero, suc, ◌+◌, ◌-◌, ◌<◌, ◌^◌, take, drop, true, is_some, List, [], ◌∷◌, ◌++◌, length, get_or, Option, Some, None, MatchOption, Result, Ok, Err, OnErr, arith}
 use Rattle.std.specs.Prelude.{slice_set}
 use Rattle.std.specs.List.{slice_get}
 use Rattle.std.proofs.lemmas.List.{append-nil}
-use Rattle.std.proofs.lemmas.Option.{get_or_from_slice_get}
+use Rattle.std.proofs.lemmas.Option.{get_or_from_slice_get, slice_get_read}
 use Rattle.mds_base.specs.declared.ask.Ask.{Ask}
 use Rattle.mds_base.specs.declared.setup.Setup.{Setup}
 use Rattle.mds_out.specs.Disk.{Image, Contents, Tells}
@@ -105,6 +105,22 @@ message_made servers (Busy to seq attempt part depth) good = tt
 message_made servers (Held to seq attempt until) good = tt
 message_made servers (Transfer to dir part depth bits sessions top rows) good = tt
 message_made servers (Installed to dir part child) good = tt
+
+-- the server of a message, where it is for one, is there
+for_there : (servers : ℕ) (msg : Msg) → IsSent servers msg → MatchOption (server_for (Some msg)) (Unit {0}) (λ server. server < servers)
+for_there servers (Request to ask cursor) good = good.0
+for_there servers (Redirect to seq attempt dir bits) good = tt
+for_there servers (Answer to seq attempt reply) good = tt
+for_there servers (Busy to seq attempt part depth) good = tt
+for_there servers (Held to seq attempt until) good = tt
+for_there servers (Transfer to dir part depth bits sessions top rows) good = good
+for_there servers (Installed to dir part child) good = good
+
+pub server_there : {X : Type 0} (setup : Setup) (now count : ℕ) (stores : List (Store X)) (clients : List ClientV) (sent : List Msg) → AreRanges setup now count stores clients sent → (msgs : List Msg) (at : ℕ) (msg : Msg) (result : Option ℕ) → msgs ≡ sent → at < length msgs → msg ≡ get_or msgs at msg → result ≡ server_for (Some msg)
+    → MatchOption result (Unit {0}) (λ server. server < setup.servers)
+server_there setup now count stores clients sent r msgs at msg result same below read is =
+    let there : slice_get sent at ≡ Some msg = ap (λ l. slice_get l at) (sym same) ∙ slice_get_read msgs (length msgs) at msg refl below read in
+    subst (λ o. MatchOption o (Unit {0}) (λ server. server < setup.servers)) (sym is) (for_there setup.servers msg (r.sent'.at at msg there))
 
 -- What stays
 

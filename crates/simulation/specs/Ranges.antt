@@ -2,7 +2,7 @@
 use Rattle.std.specs.Prelude.{◌≡◌, ℕ, ◌+◌, ◌<◌, ◌≤◌, ◌^◌, List, length, Option, Some, None}
 use Rattle.mds_base.specs.declared.setup.Setup.{Setup}
 use Rattle.records.specs.declared.msg.Msg.{Msg}
-use Rattle.records.specs.declared.msg.Msg.TheVariants.{Request}
+use Rattle.records.specs.declared.msg.Msg.TheVariants.{Request, Transfer, Installed}
 use Rattle.client_core.specs.declared.client.Pending.{Pending}
 use Rattle.client_core.specs.Clients.{ClientV}
 use Rattle.node_store.specs.Serve.{IsMessage, IsWellMade}
@@ -34,9 +34,11 @@ pub record IsSeat (setup : Setup) (count k : ℕ) (client : ClientV) : Type 0 wh
   pub seq : client.seq ≤ count
   pub pending : IsOpen count client.seq client.pending
 
--- a message is well made, and a request is for a server that is there
+-- a message is well made, and one that is for a server is for one that is there
 abbrev pub IsSent : ℕ → Msg → Type 0
 IsSent servers (Request server ask cursor) = (server < servers) × IsMessage (Request server ask cursor)
+IsSent servers (Transfer server dir part depth bits sessions top rows) = server < servers
+IsSent servers (Installed server dir part child) = server < servers
 IsSent servers msg = IsMessage msg
 
 -- the parts that calls of a simulation read are within their ranges

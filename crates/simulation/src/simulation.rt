@@ -1,4 +1,4 @@
-ghost use Rattle.std.specs.Prelude.{◌≡◌, ℕ, ◌+◌, ◌<◌, ◌≤◌, ◌^◌, true, Some};
+ghost use Rattle.std.specs.Prelude.{◌≡◌, ℕ, ◌+◌, ◌<◌, ◌≤◌, ◌^◌, true, Some, MatchOption};
 ghost use Rattle.std.specs.Prelude.{slice_set};
 ghost use Rattle.std.specs.List.{slice_get};
 ghost use Rattle.mds_out.specs.Fused.{Fused};
@@ -127,9 +127,10 @@ impl<D: Disk> Simulation<D> {
         next <= (u64::from(server) + 1) * (1 << 40) - (1 << 18)
     }
 
-    /// The server of the message at a place, where one was sent that is for a server.
+    /// The server of the message at a place, where one was sent that is for a server: it is one that is there.
     pub fn server_for(&self, place: u64) -> Option<u32>
-        ensures { result ≡ server_for (slice_get self.now.sent place) }
+        ensures value { result ≡ server_for (slice_get self.now.sent place) }
+        ensures there { MatchOption result (Unit {0}) (λ server. server < self.now.setup.servers) }
     {
         let Ok(at) = usize::try_from(place) else {
             return None;
@@ -184,6 +185,7 @@ impl<D: Disk> Simulation<D> {
     /// From here on `calls` calls of a server's disk pass, and later ones fail, until it is restarted.
     pub fn arm(&mut self, server: u32, calls: u64)
         requires { server < self.old.setup.servers }
+        ensures setup { self.new.setup ≡ self.old.setup }
         ensures same { ShowsSame (seen_by D.seen) (images_by D.images) self.old self.new }
         ensures after { (store : Store (Fused D)) → slice_get self.old.stores server ≡ Some store → self.new ≡ record self.old { stores = slice_set self.old.stores server (armed store calls) } }
     {

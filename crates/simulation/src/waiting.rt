@@ -1,5 +1,5 @@
 //! The messages that no Serve named yet.
-ghost use Rattle.std.specs.Prelude.{◌≡◌, ◌<◌, true, OnOk, OnErr, Some};
+ghost use Rattle.std.specs.Prelude.{◌≡◌, ◌<◌, true, length, OnOk, OnErr, Some};
 ghost use Rattle.std.specs.FinSet as set;
 ghost use Rattle.world.specs.Events.{is_for_client};
 ghost use Rattle.simulation.specs.Calls.{awaiting};
@@ -15,7 +15,8 @@ impl<D: Disk> Simulation<D> {
     /// The first place of a message that is for a server that is up and was named in no Serve before. It takes a time
     /// that grows with the number of servers, and with the logarithm of that of waiting messages.
     pub fn next_waiting(&self) -> Option<u64>
-        ensures { IsFirst (IsDue self.now self.now.setup.servers) result }
+        ensures first { IsFirst (IsDue self.now self.now.setup.servers) result }
+        ensures stores { length self.now.stores ≡ self.now.setup.servers }
     {
         let mut first = None;
         for server in 0..self.setup.servers {

@@ -1,4 +1,4 @@
-use Rattle.std.proofs.Common.{sym, subst, ◌<◌}
+use Rattle.std.proofs.Common.{sym, ap, subst, ◌<◌}
 use Rattle.mds_out.specs.Fused.{Fused}
 use Rattle.simulation.specs.Shows.{SimulationV}
 use Rattle.simulation.proofs.Arming.{ranged_armed, arm_same, arm_after, store_at}
@@ -9,6 +9,9 @@ invariant_of-self g c =
     let there = subst (λ (v : SimulationV (Fused g.row.D.Denot)). c.args.server < v.setup.servers) (sym c.self.view_is) c.requires in
     let is = store_at c.self.inside.stores.items c.args.server c.self.inside.setup.servers c.index_mut.result.now c.self.invariant.0.stores' there c.index_mut.ensures.value in
     (ranged_armed _ _ _ _ _ _ c.args.server c.args.calls c.index_mut.result.now c.arm.new.self c.self.invariant.0 is c.arm.ensures, c.self.invariant.1, c.self.invariant.2)
+
+pub returns-clause-setup : goal.returns-clause-setup
+returns-clause-setup g c = ap (λ (v : SimulationV (Fused g.row.D.Denot)). v.setup) c.self.view_is
 
 pub returns-clause-same : goal.returns-clause-same
 returns-clause-same g c =

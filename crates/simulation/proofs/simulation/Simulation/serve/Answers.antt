@@ -9,12 +9,12 @@ use Rattle.simulation.proofs.simulation.Simulation.serve.Goals as goal
 
 pub serve_batch-requires-clause-up : goal.serve_batch-requires-clause-up
 serve_batch-requires-clause-up g c =
-    let s = serving _ _ c.args.place c.in-Some.server c.index_mut.result.now c.self.view_is c.requires.message c.in-Some.ensures c.index_mut.ensures.value in
+    let s = serving _ _ c.args.place c.in-Some.server c.index_mut.result.now c.self.view_is c.requires.message c.in-Some.ensures.value c.index_mut.ensures.value in
     (s.up, s.to.up', s.to.numbers)
 
 pub serve_batch-requires-clause-one : goal.serve_batch-requires-clause-one
 serve_batch-requires-clause-one g c =
-    let s = serving _ _ c.args.place c.in-Some.server c.index_mut.result.now c.self.view_is c.requires.message c.in-Some.ensures c.index_mut.ensures.value in
+    let s = serving _ _ c.args.place c.in-Some.server c.index_mut.result.now c.self.view_is c.requires.message c.in-Some.ensures.value c.index_mut.ensures.value in
     (s.msg, one_message _ _ _ _ _ _ c.args.place s.msg _ c.self.invariant.0 s.to.there (c.one_at-msgs.ensures s.msg (ap (λ l. slice_get l c.args.place) c.messages.ensures ∙ s.to.there)))
 
 pub hand_out-requires : goal.hand_out-requires
@@ -22,12 +22,12 @@ hand_out-requires g c = serves_place _ _ c.args.place c.self.view_is c.requires.
 
 pub invariant_of-self : goal.invariant_of-self
 invariant_of-self g c =
-    let s = serving _ _ c.args.place c.in-Some.server c.index_mut.result.now c.self.view_is c.requires.message c.in-Some.ensures c.index_mut.ensures.value in
+    let s = serving _ _ c.args.place c.in-Some.server c.index_mut.result.now c.self.view_is c.requires.message c.in-Some.ensures.value c.index_mut.ensures.value in
     (ranged_unsent _ _ _ _ _ _ c.self.invariant.0 c.in-Some.server c.index_mut.result.now c.serve_batch.new.self s.to.is c.serve_batch.ensures.same.0 c.serve_batch.ensures.same.1 c.hand_out.new.sent c.in_err-served-in-Ok.ensures.err, c.self.invariant.1, c.self.invariant.2)
 
 pub returns-in_err-served-in-Ok-clause-err : goal.returns-in_err-served-in-Ok-clause-err
 returns-in_err-served-in-Ok-clause-err g c =
-    let s = serving _ _ c.args.place c.in-Some.server c.index_mut.result.now c.self.view_is c.requires.message c.in-Some.ensures c.index_mut.ensures.value in
+    let s = serving _ _ c.args.place c.in-Some.server c.index_mut.result.now c.self.view_is c.requires.message c.in-Some.ensures.value c.index_mut.ensures.value in
     let one = one_message _ _ _ _ _ _ c.args.place s.msg _ c.self.invariant.0 s.to.there (c.one_at-msgs.ensures s.msg (ap (λ l. slice_get l c.args.place) c.messages.ensures ∙ s.to.there)) in
     let did = c.in-Ok.ensures.served s.msg s.up one s.to.up' in
     on_err _ _ (serve_unsent (seen_by g.D.Disk.seen) (images_by g.D.Disk.images) _ _ c.args.place c.in-Some.server c.index_mut.result.now c.serve_batch.new.self c.self.view_is s c.in-Ok.handled.records c.in-Ok.handled.outputs
@@ -35,12 +35,12 @@ returns-in_err-served-in-Ok-clause-err g c =
 
 pub returns-in_err-served-in-Ok-clause-others : goal.returns-in_err-served-in-Ok-clause-others
 returns-in_err-served-in-Ok-clause-others g c =
-    let s = serving _ _ c.args.place c.in-Some.server c.index_mut.result.now c.self.view_is c.requires.message c.in-Some.ensures c.index_mut.ensures.value in
+    let s = serving _ _ c.args.place c.in-Some.server c.index_mut.result.now c.self.view_is c.requires.message c.in-Some.ensures.value c.index_mut.ensures.value in
     others_for _ _ c.in-Some.server c.args.place c.index_mut.result.now c.self.view_is s c.serve_batch.new.self
 
 pub invariant_of-self-in-Ok : goal.invariant_of-self-in-Ok
 invariant_of-self-in-Ok g c =
-    let s = serving _ _ c.args.place c.in-Some.server c.index_mut.result.now c.self.view_is c.requires.message c.in-Some.ensures c.index_mut.ensures.value in
+    let s = serving _ _ c.args.place c.in-Some.server c.index_mut.result.now c.self.view_is c.requires.message c.in-Some.ensures.value c.index_mut.ensures.value in
     let one = one_message _ _ _ _ _ _ c.args.place s.msg _ c.self.invariant.0 s.to.there (c.one_at-msgs.ensures s.msg (ap (λ l. slice_get l c.args.place) c.messages.ensures ∙ s.to.there)) in
     let did = c.in-Ok.ensures.served s.msg s.up one s.to.up' in
     let room = subst (λ (v : SimulationV (Fused g.row.D.Denot)). v.count < 2 ^ 20) (sym c.self.view_is) c.requires.room in (
@@ -52,7 +52,7 @@ invariant_of-self-in-Ok g c =
 
 pub returns-in_ok-served-in-Ok-clause-ok : goal.returns-in_ok-served-in-Ok-clause-ok
 returns-in_ok-served-in-Ok-clause-ok g c =
-    let s = serving _ _ c.args.place c.in-Some.server c.index_mut.result.now c.self.view_is c.requires.message c.in-Some.ensures c.index_mut.ensures.value in
+    let s = serving _ _ c.args.place c.in-Some.server c.index_mut.result.now c.self.view_is c.requires.message c.in-Some.ensures.value c.index_mut.ensures.value in
     let one = one_message _ _ _ _ _ _ c.args.place s.msg _ c.self.invariant.0 s.to.there (c.one_at-msgs.ensures s.msg (ap (λ l. slice_get l c.args.place) c.messages.ensures ∙ s.to.there)) in
     let did = c.in-Ok.ensures.served s.msg s.up one s.to.up' in
     serves_done (seen_by g.D.Disk.seen) (images_by g.D.Disk.images) _ _ _ c.in-Some.server c.args.place c.index_mut.result.now c.in-Ok.handled.outputs c.in_ok-served-in-Ok.served c.self.view_is s
@@ -63,18 +63,18 @@ returns-in_ok-served-in-Ok-clause-ok g c =
 
 pub returns-in_ok-served-in-Ok-clause-others : goal.returns-in_ok-served-in-Ok-clause-others
 returns-in_ok-served-in-Ok-clause-others g c =
-    let s = serving _ _ c.args.place c.in-Some.server c.index_mut.result.now c.self.view_is c.requires.message c.in-Some.ensures c.index_mut.ensures.value in
+    let s = serving _ _ c.args.place c.in-Some.server c.index_mut.result.now c.self.view_is c.requires.message c.in-Some.ensures.value c.index_mut.ensures.value in
     others_for _ _ c.in-Some.server c.args.place c.index_mut.result.now c.self.view_is s c.serve_batch.new.self
 
 pub invariant_of-self-in-Device : goal.invariant_of-self-in-Device
 invariant_of-self-in-Device g c =
-    let s = serving _ _ c.args.place c.in-Some.server c.index_mut.result.now c.self.view_is c.requires.message c.in-Some.ensures c.index_mut.ensures.value in
+    let s = serving _ _ c.args.place c.in-Some.server c.index_mut.result.now c.self.view_is c.requires.message c.in-Some.ensures.value c.index_mut.ensures.value in
     let room = subst (λ (v : SimulationV (Fused g.row.D.Denot)). v.count < 2 ^ 20) (sym c.self.view_is) c.requires.room in
     (ranged_more _ _ _ _ _ _ c.self.invariant.0 c.in-Some.server c.index_mut.result.now c.serve_batch.new.self s.to.is c.serve_batch.ensures.same.0 c.serve_batch.ensures.same.1 _ room c.self.invariant.0.sent', c.self.invariant.1, c.self.invariant.2)
 
 pub returns-in-Device-clause-ok : goal.returns-in-Device-clause-ok
 returns-in-Device-clause-ok g c =
-    let s = serving _ _ c.args.place c.in-Some.server c.index_mut.result.now c.self.view_is c.requires.message c.in-Some.ensures c.index_mut.ensures.value in
+    let s = serving _ _ c.args.place c.in-Some.server c.index_mut.result.now c.self.view_is c.requires.message c.in-Some.ensures.value c.index_mut.ensures.value in
     let one = one_message _ _ _ _ _ _ c.args.place s.msg _ c.self.invariant.0 s.to.there (c.one_at-msgs.ensures s.msg (ap (λ l. slice_get l c.args.place) c.messages.ensures ∙ s.to.there)) in
     let down = c.serve_batch.ensures.down (c.in-Err.is ∙ ap Err c.in-Device.is) in
     serves_stopped _ _ c.in-Some.server c.args.place c.index_mut.result.now c.self.view_is s (seen_by g.D.Disk.seen) (images_by g.D.Disk.images) _
@@ -85,26 +85,26 @@ returns-in-Device-clause-ok g c =
 
 pub returns-in-Device-clause-rose : goal.returns-in-Device-clause-rose
 returns-in-Device-clause-rose g c =
-    let s = serving _ _ c.args.place c.in-Some.server c.index_mut.result.now c.self.view_is c.requires.message c.in-Some.ensures c.index_mut.ensures.value in
+    let s = serving _ _ c.args.place c.in-Some.server c.index_mut.result.now c.self.view_is c.requires.message c.in-Some.ensures.value c.index_mut.ensures.value in
     λ other meant _. rose_for _ _ c.in-Some.server c.args.place c.index_mut.result.now c.self.view_is s (fused_faults g.D.Disk.faults) c.serve_batch.new.self (c.serve_batch.ensures.cause.device (c.in-Err.is ∙ ap Err c.in-Device.is)) other meant
 
 pub returns-in-Device-clause-others : goal.returns-in-Device-clause-others
 returns-in-Device-clause-others g c =
-    let s = serving _ _ c.args.place c.in-Some.server c.index_mut.result.now c.self.view_is c.requires.message c.in-Some.ensures c.index_mut.ensures.value in
+    let s = serving _ _ c.args.place c.in-Some.server c.index_mut.result.now c.self.view_is c.requires.message c.in-Some.ensures.value c.index_mut.ensures.value in
     others_for _ _ c.in-Some.server c.args.place c.index_mut.result.now c.self.view_is s c.serve_batch.new.self
 
 pub invariant_of-self-in_default-fault : goal.invariant_of-self-in_default-fault
 invariant_of-self-in_default-fault g c =
-    let s = serving _ _ c.args.place c.in-Some.server c.index_mut.result.now c.self.view_is c.requires.message c.in-Some.ensures c.index_mut.ensures.value in
+    let s = serving _ _ c.args.place c.in-Some.server c.index_mut.result.now c.self.view_is c.requires.message c.in-Some.ensures.value c.index_mut.ensures.value in
     (ranged_store _ _ _ _ _ _ c.self.invariant.0 c.in-Some.server c.index_mut.result.now c.serve_batch.new.self s.to.is c.serve_batch.ensures.same.0 c.serve_batch.ensures.same.1, c.self.invariant.1, c.self.invariant.2)
 
 pub returns-in_default-fault-clause-err : goal.returns-in_default-fault-clause-err
 returns-in_default-fault-clause-err g c =
-    let s = serving _ _ c.args.place c.in-Some.server c.index_mut.result.now c.self.view_is c.requires.message c.in-Some.ensures c.index_mut.ensures.value in
+    let s = serving _ _ c.args.place c.in-Some.server c.index_mut.result.now c.self.view_is c.requires.message c.in-Some.ensures.value c.index_mut.ensures.value in
     let one = one_message _ _ _ _ _ _ c.args.place s.msg _ c.self.invariant.0 s.to.there (c.one_at-msgs.ensures s.msg (ap (λ l. slice_get l c.args.place) c.messages.ensures ∙ s.to.there)) in
     serve_refused (seen_by g.D.Disk.seen) (images_by g.D.Disk.images) _ _ c.args.place c.in-Some.server c.index_mut.result.now c.serve_batch.new.self c.self.view_is s c.serve_batch.ensures.told c.serve_batch.ensures.same (c.in-Err.ensures.refused s.msg s.up one s.to.up')
 
 pub returns-in_default-fault-clause-others : goal.returns-in_default-fault-clause-others
 returns-in_default-fault-clause-others g c =
-    let s = serving _ _ c.args.place c.in-Some.server c.index_mut.result.now c.self.view_is c.requires.message c.in-Some.ensures c.index_mut.ensures.value in
+    let s = serving _ _ c.args.place c.in-Some.server c.index_mut.result.now c.self.view_is c.requires.message c.in-Some.ensures.value c.index_mut.ensures.value in
     others_for _ _ c.in-Some.server c.args.place c.index_mut.result.now c.self.view_is s c.serve_batch.new.self
