@@ -1,0 +1,7 @@
+use Rattle.simulation.specs.Fuses.{seen_by, images_by}
+use Rattle.interpreter.proofs.Settling.{Settles}
+use Rattle.interpreter.proofs.interpreter.Interpreter.settle.Given as goal
+
+-- what was due first was delivered in each round
+abbrev pub invariant-loop : goal.invariant-loop
+invariant-loop g l = Settles (seen_by g.D.Disk.seen) (images_by g.D.Disk.images) l.fn.self.simulation l.self.simulation l.fn.self.pending.items l.self.pending.items l.counter

@@ -1,0 +1,4 @@
+pub mod EventText
+pub mod Steps
+pub mod Story
+pub mod Text

@@ -1,0 +1,77 @@
+-- How calls, replies and effects are printed.
+use Rattle.std.specs.Prelude.{ℕ, List, [], ◌++◌, if◌then◌else◌, length, codes, decimal}
+use Rattle.std.specs.List.{flat_map}
+use Rattle.mds_base.specs.Entries.{is_file}
+use Rattle.mds_base.specs.declared.attr.Attr.{Attr}
+use Rattle.mds_base.specs.declared.call.Call.{Call}
+use Rattle.mds_base.specs.declared.call.Call.TheVariants.{Create, Mkdir, Remove, Lookup, Setattr, Scan, Grab, Load, Link}
+use Rattle.mds_base.specs.declared.reply.Final.{Final}
+use Rattle.mds_base.specs.declared.reply.Final.TheVariants.{Created, CreatedDir, Exists, Removed, Missing, IsDir, Set, Ids, Loaded, Stale}
+use Rattle.mds_base.specs.declared.reply.Reply.{Reply}
+use Rattle.mds_base.specs.declared.reply.Reply.TheVariants.{Said, Found, Listed}
+use Rattle.mds_base.specs.declared.entry.Entry.{Entry}
+use Rattle.client_core.specs.declared.taken.Taken.{Taken}
+use Rattle.client_core.specs.declared.taken.Taken.TheVariants as takes
+use Rattle.script.specs.Text.{name_text}
+
+-- a name in its directory, after a verb
+abbrev pub place_text : List ℕ → ℕ → List ℕ → List ℕ
+place_text verb dir name = verb ++ codes " " ++ decimal dir ++ codes " " ++ name_text name
+
+abbrev pub call_text : Call → List ℕ
+call_text (Create dir name) = place_text (codes "create") dir name
+call_text (Mkdir dir name) = place_text (codes "mkdir") dir name
+call_text (Remove dir name) = place_text (codes "remove") dir name
+call_text (Lookup dir name) = place_text (codes "lookup") dir name
+call_text (Setattr dir name mode size) = place_text (codes "setattr") dir name ++ codes " " ++ decimal mode ++ codes " " ++ decimal size
+call_text (Scan dir) = codes "scan " ++ decimal dir
+call_text (Grab dir name count) = place_text (codes "grab") dir name ++ codes " " ++ decimal count
+call_text (Load dir rows) = codes "load " ++ decimal dir ++ codes " " ++ decimal (length rows)
+call_text (Link dir name id) = place_text (codes "link") dir name ++ codes " " ++ decimal id
+
+-- what an entry is
+abbrev pub kind_text : Attr → List ℕ
+kind_text attr = (if is_file attr then codes "file" else (codes "dir " ++ decimal attr.dir)) ++ codes " " ++ decimal attr.mode ++ codes " " ++ decimal attr.size
+
+abbrev pub final_text : Final → List ℕ
+final_text Created = codes "created"
+final_text (CreatedDir number) = codes "created " ++ decimal number
+final_text Exists = codes "exists"
+final_text Removed = codes "removed"
+final_text Missing = codes "missing"
+final_text IsDir = codes "isdir"
+final_text Set = codes "set"
+final_text (Ids first) = codes "ids " ++ decimal first
+final_text (Loaded count) = codes "loaded " ++ decimal count
+final_text Stale = codes "stale"
+
+abbrev pub reply_text : Reply → List ℕ
+reply_text (Said said) = final_text said
+reply_text (Found attr until) = codes "found " ++ kind_text attr
+reply_text (Listed rows) = codes "listed " ++ decimal (length rows)
+
+-- the line of an effect
+abbrev pub effect_line : Entry → List ℕ
+effect_line entry = codes "= " ++ decimal entry.client ++ codes " " ++ decimal entry.seq ++ codes " " ++ call_text entry.call ++ codes " " ++ reply_text entry.reply ++ codes "\n"
+
+abbrev pub effects_of : List Entry → List ℕ
+effects_of entries = flat_map effect_line entries
+
+-- what a client made of a message, behind its number and that of its call
+abbrev pub taken_text : Taken → List ℕ
+taken_text (takes.Answer reply) = reply_text reply
+taken_text (takes.Redirected part) = codes "redirect " ++ decimal part
+taken_text (takes.Busy part) = codes "busy " ++ decimal part
+taken_text (takes.Held until) = codes "held " ++ decimal until
+taken_text takes.Paged = []
+taken_text takes.Ignored = []
+
+-- the line of a client that took a message
+abbrev pub taken_line : ℕ → ℕ → Taken → List ℕ
+taken_line client seq takes.Paged = []
+taken_line client seq takes.Ignored = []
+taken_line client seq taken = decimal client ++ codes " " ++ decimal seq ++ codes " " ++ taken_text taken ++ codes "\n"
+
+-- the line of a server, behind a word
+abbrev pub server_line : List ℕ → ℕ → List ℕ
+server_line word server = word ++ decimal server ++ codes "\n"

@@ -1,0 +1,161 @@
+//! Scripts over memory disks, and the text of each.
+use crate::{EffectLine, Interpreter};
+use mds_base::Setup;
+use mds_out::{Memory, Outcome};
+use script::read_line;
+use simulation::Simulation;
+use std::alloc::{AllocError, Global};
+use std::fmt::Write;
+use std::process::Abort;
+use std::test::Fail;
+
+const SETUP: Setup = Setup {
+    servers: 1,
+    threshold: 8000,
+    lease: 0,
+    clients: 2,
+};
+
+fn opened(alloc: Global, outcome: Outcome) -> Result<Interpreter<Memory>, Fail> {
+    let mut disks = Vec::new(alloc);
+    disks.push(Memory::new(alloc, outcome, Vec::new(alloc))?)?;
+    match Simulation::open(alloc, SETUP, disks) {
+        Ok(simulation) => Ok(Interpreter::new(alloc, simulation)),
+        Err(_) => Err(AllocError.into()),
+    }
+}
+
+// Carries a line out where it is allowed, and says whether it is.
+fn carried(
+    alloc: Global,
+    interpreter: &mut Interpreter<Memory>,
+    bytes: &[u8],
+) -> Result<bool, Fail> {
+    let setup = interpreter.simulation.setup();
+    let Ok(line) = read_line(alloc, bytes, &setup) else {
+        return Err(AllocError.into());
+    };
+    if !interpreter.is_allowed(&line) {
+        return Ok(false);
+    }
+    match interpreter.carry_out(alloc, line) {
+        Ok(()) => Ok(true),
+        Err(_) => Err(AllocError.into()),
+    }
+}
+
+// The text of lines that are all allowed, and then the effects.
+fn text_of(
+    rt: &impl Abort,
+    alloc: Global,
+    outcome: Outcome,
+    lines: &[&str],
+) -> Result<String, Fail> {
+    let mut interpreter = opened(alloc, outcome)?;
+    for line in lines {
+        assert!(rt; carried(alloc, &mut interpreter, line.as_bytes())?);
+    }
+    let mut text = String::new(alloc);
+    for byte in interpreter.pending.as_slice() {
+        text.push(char::from(*byte))?;
+    }
+    for made in interpreter.simulation.made() {
+        if interpreter.simulation.stands(made) {
+            write!(text, "{}", EffectLine(&made.entry))?;
+        }
+    }
+    Ok(text)
+}
+
+#[test]
+fn lines_print_their_events(rt: HostRuntime) -> Result<(), Fail> {
+    let alloc = rt.alloc();
+    let table = [
+        // A reply is lost, and another comes late.
+        (
+            ["issue 1 create 1 a", "deliver 0", "retry 1", "deliver 0", "take 1 4"].as_slice(),
+            "1 1 created\n= 1 1 create 1 a created\n",
+        ),
+        // Two clients make one name.
+        (
+            [
+                "issue 1 create 1 a",
+                "issue 2 create 1 a",
+                "deliver 1",
+                "deliver 0",
+                "take 2 2",
+                "take 1 3",
+            ]
+            .as_slice(),
+            "2 1 created\n1 1 exists\n= 2 1 create 1 a created\n= 1 1 create 1 a exists\n",
+        ),
+        // What waits is served in the order in which it was sent.
+        (
+            ["issue 2 create 1 b", "issue 1 create 1 a", "settle", "take 2 2", "take 1 3"].as_slice(),
+            "2 1 created\n1 1 created\n= 2 1 create 1 b created\n= 1 1 create 1 a created\n",
+        ),
+        // A message meets a server that is down.
+        (
+            ["stop 0", "call 1 create 1 a", "restart 0", "tick 1", "retry 1"].as_slice(),
+            "down 0\n1 1 created\n= 1 1 create 1 a created\n",
+        ),
+        // Each kind of call.
+        (
+            [
+                "# a comment",
+                "call 1 create 1 a%20b",
+                "call 1 setattr 1 a%20b 493 7",
+                "call 1 lookup 1 a%20b",
+                "call 1 remove 1 a%20b",
+                "call 1 lookup 1 a%20b",
+            ]
+            .as_slice(),
+            "1 1 created\n1 2 set\n1 3 found file 493 7\n1 4 removed\n1 5 missing\n\
+             = 1 1 create 1 a%20b created\n= 1 2 setattr 1 a%20b 493 7 set\n\
+             = 1 3 lookup 1 a%20b found file 493 7\n= 1 4 remove 1 a%20b removed\n\
+             = 1 5 lookup 1 a%20b missing\n",
+        ),
+    ];
+    for (lines, text) in table {
+        assert_eq!(rt; text_of(&rt, alloc, Outcome::Old, lines)?.as_str(), text);
+    }
+    Ok(())
+}
+
+#[test]
+fn a_device_that_fails_stops_its_server(rt: HostRuntime) -> Result<(), Fail> {
+    let alloc = rt.alloc();
+    for outcome in [Outcome::Old, Outcome::New] {
+        for fuse in ["fuse 0 0", "fuse 0 1", "fuse 0 2", "fuse 0 3"] {
+            let text = text_of(
+                &rt,
+                alloc,
+                outcome,
+                &[fuse, "call 1 create 1 a", "restart 0", "retry 1"],
+            )?;
+            assert_eq!(rt; text.as_str(), "stopped 0\n1 1 created\n= 1 1 create 1 a created\n");
+        }
+    }
+    Ok(())
+}
+
+#[test]
+fn lines_that_are_not_allowed(rt: HostRuntime) -> Result<(), Fail> {
+    let alloc = rt.alloc();
+    let table = [
+        ("issue 1 create 1 a", "issue 1 create 1 b"),
+        ("issue 1 create 1 a", "call 1 create 1 b"),
+        ("issue 1 create 1 a", "retry 2"),
+        ("issue 1 create 1 a", "deliver 1"),
+        ("issue 1 create 1 a", "take 1 0"),
+        ("call 1 create 1 a", "take 2 1"),
+        ("stop 0", "stop 0"),
+        ("tick 1", "restart 0"),
+    ];
+    for (first, second) in table {
+        let mut interpreter = opened(alloc, Outcome::Old)?;
+        assert!(rt; carried(alloc, &mut interpreter, first.as_bytes())?);
+        assert!(rt; !carried(alloc, &mut interpreter, second.as_bytes())?);
+    }
+    Ok(())
+}
