@@ -1,6 +1,5 @@
 -- A client's message is followed, round by round.
-use Rattle.std.proofs.Common.{◌≡◌, ◌∙◌, sym, ap, subst, refl, ℕ, ◌+◌, ◌<◌, ◌≤◌, ◌^◌, Bool, true, false, List, [], ◌∷◌, ◌++◌, length, Option, Some, None, inl, inr, append_assoc, arith}
-use Rattle.std.specs.Prelude.{◌⊎◌}
+use Rattle.std.proofs.Common.{◌≡◌, ◌∙◌, sym, ap, subst, refl, ℕ, ◌+◌, ◌≤◌, ◌^◌, Bool, true, false, List, [], ◌∷◌, ◌++◌, length, Some, None, inl, inr, arith}
 use Rattle.std.specs.List.{slice_get}
 use Rattle.mds_base.specs.declared.setup.Which.TheVariants as limits
 use Rattle.mds_out.specs.Disk.{Image, Contents}
@@ -14,8 +13,8 @@ use Rattle.world.specs.Events.{is_up}
 use Rattle.world.specs.Worlds.{WorldV}
 use Rattle.interpreter.specs.declared.interpreter.Halt.{Halt}
 use Rattle.interpreter.specs.declared.interpreter.Halt.TheVariants as halts
-use Rattle.interpreter.specs.Steps.{Goes, GoesBy, Carries, Halts, HaltsBy, IsDeliveredTo, IsEvent, IsSentOn, OrNone}
-use Rattle.interpreter.specs.Story.{grown_by, IsDelivered, IsDeliveredAt, IsDelivery, IsAnswered, IsSentAgain, IsFollowed, IsFollowing, IsSentAndFollowed, IsSending, is_sent_on, redirects}
+use Rattle.interpreter.specs.Steps.{GoesBy, Carries, Halts, IsDeliveredTo, IsEvent, IsSentOn, OrNone}
+use Rattle.interpreter.specs.Story.{grown_by, IsDelivered, IsDeliveredAt, IsDelivery, IsAnswered, IsFollowed, IsFollowing, IsSentAndFollowed, IsSending, is_sent_on, redirects}
 use Rattle.interpreter.proofs.Looping.{SoFar, Round, so_far_none, so_far_more, so_far_ends, so_far_halts, so_far_full}
 use Rattle.interpreter.proofs.Sights.{seen_msg}
 use Rattle.interpreter.proofs.Stepping.{by_join, by_kind, halts_behind, halts_kind}
@@ -94,8 +93,8 @@ module _ {X : Type 0} (seen : X → Contents) (images : X → Image → Type 0) 
   round_taken old mid new was at now client place first on delivers takes redirected run shows =
       let d = delivers run shows in
       by_join seen images mid new was at now run d.events (IsEvent (Take client first) (grown_by run d.events)) (IsTaken client place on run) d.goes
-        (λ more is. taken_two run client place first on d.events more d.are is (sym (redirected (grown_by run d.events) d.goes.shows)))
-        (takes (grown_by run d.events) d.goes.shows)
+      (λ more is. taken_two run client place first on d.events more d.are is (sym (redirected (grown_by run d.events) d.goes.shows)))
+      (takes (grown_by run d.events) d.goes.shows)
 
   pub round_ends : (old new : SimulationV X) (was now : List ℕ) (client place : ℕ) (on : Bool) → on ≡ false → Carries seen images old new was now (IsTaken client place on) → Carries seen images old new was now (λ run. IsFollowed run client place)
   round_ends old new was now client place on ends_here takes run shows =
@@ -106,8 +105,8 @@ module _ {X : Type 0} (seen : X → Contents) (images : X → Image → Type 0) 
   round_on old mid new was at now client place next on yes' takes sends stands run shows =
       let t = takes run shows in
       by_join seen images mid new was at now run t.events (IsEvent (Resend client) (grown_by run t.events)) (IsSentOn client place next run) t.goes
-        (λ more is. sent_on run client place next t.events more (subst (λ b. IsTaken client place b run t.events) yes' t.are) is (stands ∙ ap length (sym t.goes.shows.sent)))
-        (sends (grown_by run t.events) t.goes.shows)
+      (λ more is. sent_on run client place next t.events more (subst (λ b. IsTaken client place b run t.events) yes' t.are) is (stands ∙ ap length (sym t.goes.shows.sent)))
+      (sends (grown_by run t.events) t.goes.shows)
 
   pub halts_delivery : (old new : SimulationV X) (was now : List ℕ) (client place : ℕ) (halt : Halt) → Halts seen images old new was now (OrNone (λ run. IsDelivery run place)) halt → Halts seen images old new was now (λ run. IsFollowing run client place) halt
   halts_delivery old new was now client place halt h run shows = halts_kind seen images new was now run _ (IsFollowing run client place) halt (following_one run client place) (h run shows)
@@ -117,14 +116,14 @@ module _ {X : Type 0} (seen : X → Contents) (images : X → Image → Type 0) 
   halts_take old mid new was at now client place first halt delivers h run shows =
       let d = delivers run shows in
       halts_behind seen images mid new was at now run d.events (OrNone (IsEvent (Take client first)) (grown_by run d.events)) (IsFollowing run client place) halt d.goes
-        (λ more is. following_two run client place first d.events more d.are is) (h (grown_by run d.events) d.goes.shows)
+      (λ more is. following_two run client place first d.events more d.are is) (h (grown_by run d.events) d.goes.shows)
 
   pub halts_resend : (old mid new : SimulationV X) (was at now : List ℕ) (client place : ℕ) (on : Bool) (halt : Halt) → on ≡ true → Carries seen images old mid was at (IsTaken client place on) → Halts seen images mid new at now (OrNone (IsEvent (Resend client))) halt
       → Halts seen images old new was now (λ run. IsFollowing run client place) halt
   halts_resend old mid new was at now client place on halt yes' takes h run shows =
       let t = takes run shows in
       halts_behind seen images mid new was at now run t.events (OrNone (IsEvent (Resend client)) (grown_by run t.events)) (IsFollowing run client place) halt t.goes
-        (λ more is. following_three run client place t.events more (subst (λ b. IsTaken client place b run t.events) yes' t.are) is) (h (grown_by run t.events) t.goes.shows)
+      (λ more is. following_three run client place t.events more (subst (λ b. IsTaken client place b run t.events) yes' t.are) is) (h (grown_by run t.events) t.goes.shows)
 
   -- ---- round after round
 
@@ -134,12 +133,12 @@ module _ {X : Type 0} (seen : X → Contents) (images : X → Image → Type 0) 
   sent_ends : (run : RunV) (client place next : ℕ) (events more : List Event) → IsSentOn client place next run events → IsFollowed (grown_by run events) client next more → IsFollowed run client place (events ++ more)
   sent_ends run client place next events more s is =
       subst (λ es. IsFollowed run client place (es ++ more)) (sym s.three)
-        (s.again, subst (λ k. IsFollowed (grown_by run (s.delivered ∷ s.taken ∷ s.sent ∷ [])) client k more) s.stands (subst (λ es. IsFollowed (grown_by run es) client next more) s.three is))
+      (s.again, subst (λ k. IsFollowed (grown_by run (s.delivered ∷ s.taken ∷ s.sent ∷ [])) client k more) s.stands (subst (λ es. IsFollowed (grown_by run es) client next more) s.three is))
 
   sent_begins : (run : RunV) (client place next : ℕ) (events more : List Event) → IsSentOn client place next run events → IsFollowing (grown_by run events) client next more → IsFollowing run client place (events ++ more)
   sent_begins run client place next events more s is =
       subst (λ es. IsFollowing run client place (es ++ more)) (sym s.three)
-        (s.again, subst (λ k. IsFollowing (grown_by run (s.delivered ∷ s.taken ∷ s.sent ∷ [])) client k more) s.stands (subst (λ es. IsFollowing (grown_by run es) client next more) s.three is))
+      (s.again, subst (λ k. IsFollowing (grown_by run (s.delivered ∷ s.taken ∷ s.sent ∷ [])) client k more) s.stands (subst (λ es. IsFollowing (grown_by run es) client next more) s.three is))
 
   sent_round : (new : SimulationV X) (was now : List ℕ) (run : RunV) (client place next : ℕ) → GoesBy seen images new was now run (IsSentOn client place next run)
       → Round seen images new was now run (λ r. IsFollowed r client place) (λ r. IsFollowing r client place) (λ r. IsFollowed r client next) (λ r. IsFollowing r client next)
@@ -173,7 +172,7 @@ module _ {X : Type 0} (seen : X → Contents) (images : X → Image → Type 0) 
     so_far = λ run shows.
         let s = f.so_far run shows in
         so_far_more seen images mid new was at now run rounds (IsFollowed run client place) (IsFollowing run client place) (λ r. IsFollowed r client next) (λ r. IsFollowing r client next) (λ r. IsFollowed r client then) (λ r. IsFollowing r client then) s
-          (sent_round new at now (grown_by run s.events) client next then (carries (grown_by run s.events) s.goes.shows));
+        (sent_round new at now (grown_by run s.events) client next then (carries (grown_by run s.events) s.goes.shows));
   }
 
   pub follows_ends : (old mid new : SimulationV X) (was at now : List ℕ) (client place next rounds : ℕ) → Follows old mid was at client place next rounds → Carries seen images mid new at now (λ run. IsFollowed run client next)
@@ -204,12 +203,12 @@ module _ {X : Type 0} (seen : X → Contents) (images : X → Image → Type 0) 
   sends_ends : (run : RunV) (client place : ℕ) (event : Event) (events more : List Event) → IsEvent event run events → place ≡ length run.trace.world.sent → IsFollowed (grown_by run events) client place more → IsSentAndFollowed run client event (events ++ more)
   sends_ends run client place event events more is stands followed =
       subst (λ es. IsSentAndFollowed run client event (es ++ more)) (sym is)
-        (refl, subst (λ k. IsFollowed (grown run event) client k more) stands (subst (λ es. IsFollowed (grown_by run es) client place more) is followed))
+      (refl, subst (λ k. IsFollowed (grown run event) client k more) stands (subst (λ es. IsFollowed (grown_by run es) client place more) is followed))
 
   sends_begins : (run : RunV) (client place : ℕ) (event : Event) (events more : List Event) → IsEvent event run events → place ≡ length run.trace.world.sent → IsFollowing (grown_by run events) client place more → IsSending run client event (events ++ more)
   sends_begins run client place event events more is stands following =
       subst (λ es. IsSending run client event (es ++ more)) (sym is)
-        (refl, subst (λ k. IsFollowing (grown run event) client k more) stands (subst (λ es. IsFollowing (grown_by run es) client place more) is following))
+      (refl, subst (λ k. IsFollowing (grown run event) client k more) stands (subst (λ es. IsFollowing (grown_by run es) client place more) is following))
 
   sending_one : (run : RunV) (client : ℕ) (event : Event) (events : List Event) → OrNone (IsEvent event) run events → IsSending run client event events
   sending_one run client event events (inl none) = subst (IsSending run client event) (sym none) tt
@@ -220,14 +219,14 @@ module _ {X : Type 0} (seen : X → Contents) (images : X → Image → Type 0) 
   sent_followed old mid new was at now client place event sends stands follows run shows =
       let e = sends run shows in
       by_join seen images mid new was at now run e.events (IsFollowed (grown_by run e.events) client place) (IsSentAndFollowed run client event) e.goes
-        (λ more is. sends_ends run client place event e.events more e.are (stands ∙ ap length (sym shows.sent)) is) (follows (grown_by run e.events) e.goes.shows)
+      (λ more is. sends_ends run client place event e.events more e.are (stands ∙ ap length (sym shows.sent)) is) (follows (grown_by run e.events) e.goes.shows)
 
   pub sent_halts : (old mid new : SimulationV X) (was at now : List ℕ) (client place : ℕ) (event : Event) (halt : Halt) → Carries seen images old mid was at (IsEvent event) → place ≡ length old.sent → Halts seen images mid new at now (λ run. IsFollowing run client place) halt
       → Halts seen images old new was now (λ run. IsSending run client event) halt
   sent_halts old mid new was at now client place event halt sends stands h run shows =
       let e = sends run shows in
       halts_behind seen images mid new was at now run e.events (IsFollowing (grown_by run e.events) client place) (IsSending run client event) halt e.goes
-        (λ more is. sends_begins run client place event e.events more e.are (stands ∙ ap length (sym shows.sent)) is) (h (grown_by run e.events) e.goes.shows)
+      (λ more is. sends_begins run client place event e.events more e.are (stands ∙ ap length (sym shows.sent)) is) (h (grown_by run e.events) e.goes.shows)
 
   pub unsent_halts : (old new : SimulationV X) (was now : List ℕ) (client : ℕ) (event : Event) (halt : Halt) → Halts seen images old new was now (OrNone (IsEvent event)) halt → Halts seen images old new was now (λ run. IsSending run client event) halt
   unsent_halts old new was now client event halt h run shows = halts_kind seen images new was now run _ (IsSending run client event) halt (sending_one run client event) (h run shows)

@@ -1,6 +1,6 @@
 -- One event: what was carried out, or why not.
-use Rattle.std.proofs.Common.{◌≡◌, ◌∙◌, sym, ap, subst, refl, ℕ, zero, suc, ◌+◌, ◌<◌, ◌≤◌, ◌^◌, ◌&&◌, Bool, true, false, is_some, List, [], ◌∷◌, ◌++◌, length, Option, Some, None, Result, Ok, Err, inl, inr, arith}
-use Rattle.std.specs.Prelude.{◌⊎◌, OnOk, IfErr, IsErrAnd, nat_lt, codes, slice_set}
+use Rattle.std.proofs.Common.{◌≡◌, ◌∙◌, sym, ap, subst, refl, ℕ, ◌+◌, ◌<◌, ◌≤◌, ◌^◌, Bool, true, false, List, [], ◌∷◌, ◌++◌, length, Option, Some, None, Result, Ok, Err, inl, inr, arith}
+use Rattle.std.specs.Prelude.{OnOk, IfErr, IsErrAnd, nat_lt, codes}
 use Rattle.std.specs.List.{slice_get}
 use Rattle.std.proofs.lemmas.Bool.Decides.{nat_tests}
 use Rattle.std.proofs.lemmas.List.{append-nil}
@@ -9,30 +9,22 @@ use Rattle.mds_base.specs.declared.setup.Which.TheVariants as limits
 use Rattle.mds_base.specs.declared.store_fault.StoreFault.{StoreFault}
 use Rattle.mds_base.specs.declared.store_fault.StoreFault.TheVariants as faults
 use Rattle.mds_out.specs.Disk.{Image, Contents}
-use Rattle.node_store.specs.Store.{Store}
-use Rattle.client_core.specs.declared.taken.Taken.{Taken}
-use Rattle.client_core.specs.Clients.{ClientV}
-use Rattle.records.specs.declared.msg.Msg.{Msg}
-use Rattle.simulation.specs.Calls.{Serves, Restarts, taken_of}
-use Rattle.simulation.specs.declared.servers.Served.{Served}
+use Rattle.simulation.specs.Calls.{Serves, Restarts}
 use Rattle.simulation.specs.declared.servers.Served.TheVariants as serves
-use Rattle.simulation.specs.declared.servers.Restarted.{Restarted}
 use Rattle.simulation.specs.declared.servers.Restarted.TheVariants as restarts
-use Rattle.simulation.specs.Runs.{RunV, GoesOn, grown}
+use Rattle.simulation.specs.Runs.{RunV, GoesOn}
 use Rattle.simulation.specs.Shows.{SimulationV, Shows, StandNear, StaysNear, server_for, client_at, has_numbers_at}
 use Rattle.simulation.specs.Shows as shown
 use Rattle.world.specs.declared.event.Event.{Event}
-use Rattle.world.specs.declared.event.Event.TheVariants.{Issue, Resend, Serve, Miss, Take, Stop, Restart, Tick}
+use Rattle.world.specs.declared.event.Event.TheVariants.{Serve, Miss, Stop, Restart, Tick}
 use Rattle.world.specs.declared.event.ServeEnd.TheVariants as ends
 use Rattle.world.specs.declared.event.StopCause.TheVariants.{Device}
-use Rattle.world.specs.declared.state.ClientState.{ClientState}
-use Rattle.world.specs.Events.{enabled, step, seat_at, is_up, can_serve}
 use Rattle.interpreter.specs.declared.interpreter.Halt.{Halt}
 use Rattle.interpreter.specs.declared.interpreter.Halt.TheVariants as halts
 use Rattle.interpreter.specs.EventText.{event_text, down_text}
-use Rattle.interpreter.specs.Steps.{Goes, GoesBy, Carries, Halts, HaltsBy, HaltsAt, IsDeliveredTo, SendsFirst, Passes, OrNone, IsEvent, halt_of}
-use Rattle.interpreter.specs.Story.{IsDelivered, IsDeliveredAt, IsDelivery, IsRestarted, sends, taken_by}
-use Rattle.interpreter.specs.Text.{server_line, taken_line}
+use Rattle.interpreter.specs.Steps.{Carries, Halts, HaltsBy, IsDeliveredTo, SendsFirst, Passes, OrNone, IsEvent, halt_of}
+use Rattle.interpreter.specs.Story.{IsDelivered, IsDeliveredAt, IsDelivery, IsRestarted}
+use Rattle.interpreter.specs.Text.{server_line}
 use Rattle.interpreter.proofs.Sights.{seen_up, seen_numbers, seen_msg}
 use Rattle.interpreter.proofs.Stepping.{goes_one, halts_limit, halts_near, halts_unprinted}
 
@@ -107,7 +99,7 @@ module _ {X : Type 0} (seen : X → Contents) (images : X → Image → Type 0) 
       → Halts seen images sim sim pending pending (OrNone P) halt
   full sim pending P halt is next =
       subst (Halts seen images sim sim pending pending (OrNone P)) (sym is.0)
-        (limited sim pending P limits.Events (λ run shows. record { next = (next run shows).0; are = (next run shows).1; passes = subst (λ n. 2 ^ 20 ≤ n) (sym shows.count) is.1 }))
+      (limited sim pending P limits.Events (λ run shows. record { next = (next run shows).0; are = (next run shows).1; passes = subst (λ n. 2 ^ 20 ≤ n) (sym shows.count) is.1 }))
 
   pub full_event : (sim : SimulationV X) (pending : List ℕ) (event : Event) (halt : Halt) → (halt ≡ halts.Limit limits.Events) × (2 ^ 20 ≤ sim.count) → Halts seen images sim sim pending pending (OrNone (IsEvent event)) halt
   full_event sim pending event halt is = full sim pending (IsEvent event) halt is (λ run shows. (event, refl))
@@ -165,22 +157,22 @@ module _ {X : Type 0} (seen : X → Contents) (images : X → Image → Type 0) 
     pub answered_does : (first : ℕ) → shown.is_up old server ≡ true → Serves seen images old new server place (serves.Answered first) → Does seen images old new (IsDeliveredTo place (Some first)) []
     answered_does first up s run shows =
         delivers old new server place run shows for true (Serve server (place ∷ []) ends.Done) (Some first) [] up (inl refl) (s.0 run shows)
-          (sends_some old new server place run shows for (Serve server (place ∷ []) ends.Done) (s.0 run shows) s.2 first s.1) refl
+        (sends_some old new server place run shows for (Serve server (place ∷ []) ends.Done) (s.0 run shows) s.2 first s.1) refl
 
     pub silent_does : shown.is_up old server ≡ true → Serves seen images old new server place serves.Silent → Does seen images old new (IsDeliveredTo place None) []
     silent_does up s run shows =
         delivers old new server place run shows for true (Serve server (place ∷ []) ends.Done) None [] up (inl refl) (s.0 run shows)
-          (sends_none old new server place run shows for (Serve server (place ∷ []) ends.Done) (s.0 run shows) s.1) refl
+        (sends_none old new server place run shows for (Serve server (place ∷ []) ends.Done) (s.0 run shows) s.1) refl
 
     pub stopped_does : shown.is_up old server ≡ true → Serves seen images old new server place serves.Stopped → Does seen images old new (IsDeliveredTo place None) (server_line (codes "stopped ") server)
     stopped_does up s run shows =
         delivers old new server place run shows for true (Serve server (place ∷ []) ends.Stop) None (server_line (codes "stopped ") server) up (inr (inl refl)) (s.0 run shows)
-          (sends_none old new server place run shows for (Serve server (place ∷ []) ends.Stop) (s.0 run shows) s.1) refl
+        (sends_none old new server place run shows for (Serve server (place ∷ []) ends.Stop) (s.0 run shows) s.1) refl
 
     pub missed_does : (shown.is_up old server ≡ true → ⊥) → shown.Happens seen images old new (Miss place) → new ≡ record old { count = old.count + 1 } → Does seen images old new (IsDeliveredTo place None) (server_line (codes "down ") server)
     missed_does down happens after run shows =
         delivers old new server place run shows for false (Miss place) None (server_line (codes "down ") server) (is_false (shown.is_up old server) down) refl (happens run shows)
-          (sends_none old new server place run shows for (Miss place) (happens run shows) (ap (λ (s : SimulationV X). s.sent) after)) (miss_text old new server place run shows for)
+        (sends_none old new server place run shows for (Miss place) (happens run shows) (ap (λ (s : SimulationV X). s.sent) after)) (miss_text old new server place run shows for)
 
   pub delivery : (old new : SimulationV X) (place : ℕ) (first : Option ℕ) (text : List ℕ) → Does seen images old new (IsDeliveredTo place first) text → Does seen images old new (λ run. IsDelivery run place) text
   delivery old new place first text does run shows =

@@ -1,9 +1,9 @@
 -- Rounds of events, one after another.
-use Rattle.std.proofs.Common.{◌≡◌, ◌∙◌, sym, ap, subst, refl, ℕ, ◌+◌, ◌<◌, ◌≤◌, ◌^◌, Bool, true, false, List, [], ◌∷◌, ◌++◌, length, append_assoc, arith}
-use Rattle.std.proofs.lemmas.List.{append-nil, length-append}
+use Rattle.std.proofs.Common.{◌≡◌, ◌∙◌, sym, subst, refl, ℕ, ◌+◌, ◌<◌, ◌≤◌, ◌^◌, List, [], ◌∷◌, ◌++◌, length, append_assoc, arith}
+use Rattle.std.proofs.lemmas.List.{length-append}
 use Rattle.mds_base.specs.declared.setup.Which.TheVariants as limits
 use Rattle.mds_out.specs.Disk.{Image, Contents}
-use Rattle.simulation.specs.Runs.{RunV, grown}
+use Rattle.simulation.specs.Runs.{RunV}
 use Rattle.simulation.specs.Shows.{SimulationV, Shows}
 use Rattle.world.specs.declared.event.Event.{Event}
 use Rattle.interpreter.specs.declared.interpreter.Halt.{Halt}
@@ -65,8 +65,8 @@ module _ {X : Type 0} (seen : X → Contents) (images : X → Image → Type 0) 
       → (s : SoFar seen images sim was now run k Ends Begins Ends' Begins') → Begins' (grown_by run s.events) [] → (next : Event) → Begins' (grown_by run s.events) (next ∷ []) → HaltsBy seen images sim was now run Begins (halts.Limit limits.Events)
   so_far_full sim was now run k Ends Begins Ends' Begins' enough s none next comes =
       so_far_halts sim sim was now now run k Ends Begins Ends' Begins' (halts.Limit limits.Events) s
-        (halts_limit seen images sim now now (grown_by run s.events) (Begins' (grown_by run s.events)) limits.Events next s.goes.shows refl none comes
-          (subst (λ n. 2 ^ 20 ≤ n) (sym (grown_length run s.events)) (many k (length run.events) (length s.events) enough s.long)))
+      (halts_limit seen images sim now now (grown_by run s.events) (Begins' (grown_by run s.events)) limits.Events next s.goes.shows refl none comes
+      (subst (λ n. 2 ^ 20 ≤ n) (sym (grown_length run s.events)) (many k (length run.events) (length s.events) enough s.long)))
 
   crowded : (k a b c : ℕ) → 2 ^ 20 < k → k ≤ b → a + b ≡ c → c ≤ 2 ^ 20 → ⊥
   crowded k a b c e f g h = omega arith

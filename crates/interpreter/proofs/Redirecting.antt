@@ -1,5 +1,5 @@
 -- A client that takes a message: the line of that, and that a client that is redirected has its call open.
-use Rattle.std.proofs.Common.{◌≡◌, ◌∙◌, sym, ap, subst, refl, ℕ, zero, suc, ◌&&◌, ◌==◌, Bool, true, false, cond, is_some, List, [], ◌∷◌, Option, Some, None}
+use Rattle.std.proofs.Common.{◌≡◌, ◌∙◌, sym, ap, refl, ℕ, zero, suc, ◌&&◌, ◌==◌, Bool, true, false, is_some, List, [], ◌∷◌, Option, Some, None}
 use Rattle.std.specs.Prelude.{slice_set}
 use Rattle.std.specs.List.{slice_get}
 use Rattle.std.proofs.lemmas.Bool.{true≢false}
@@ -8,13 +8,12 @@ use Rattle.mds_out.specs.Disk.{Image, Contents}
 use Rattle.mds_base.specs.declared.reply.Reply.{Reply}
 use Rattle.client_core.specs.declared.client.Pending.{Pending}
 use Rattle.client_core.specs.declared.taken.Taken.{Taken}
-use Rattle.client_core.specs.declared.taken.Taken.TheVariants.{Ignored, Answer, Paged, Redirected, Busy, Held}
 use Rattle.client_core.specs.Clients.{ClientV, dir_of}
 use Rattle.client_core.specs.Taking as taking
 use Rattle.records.specs.declared.msg.Msg.{Msg}
 use Rattle.records.specs.declared.msg.Msg.TheVariants as msgs
 use Rattle.simulation.specs.Calls.{taken_of}
-use Rattle.simulation.specs.Runs.{RunV, GoesOn, grown}
+use Rattle.simulation.specs.Runs.{RunV, grown}
 use Rattle.simulation.specs.Shows.{SimulationV, Shows, client_at, is_busy}
 use Rattle.simulation.specs.Shows as shown
 use Rattle.world.specs.declared.event.Event.TheVariants.{Take}
@@ -91,7 +90,7 @@ busy_by run number place None msg is there e = cc
 busy_by run number place (Some seat) None is there e = cc
 busy_by run number place (Some seat) (Some msg) is there e =
     ap (λ (w : WorldV). seat_is_busy (seat_at w.clients number))
-      (ap (events.after_take run.trace.world number (slice_get run.trace.world.sent place)) is ∙ ap (events.after_take_of run.trace.world number seat) there)
+    (ap (events.after_take run.trace.world number (slice_get run.trace.world.sent place)) is ∙ ap (events.after_take_of run.trace.world number seat) there)
     ∙ busy_then run.trace.world.clients number seat msg is e
 
 and_same : (busy redirected : Bool) → (redirected ≡ true → busy ≡ true) → (busy && redirected) ≡ redirected
@@ -106,7 +105,7 @@ module _ {X : Type 0} (seen : X → Contents) (images : X → Image → Type 0) 
       → (run : RunV) → Shows seen images old run → event_text run.trace.world (Take number place) ≡ taken_line number client.seq taken
   take_line client taken is took run shows =
       line_in number (seat_at run.trace.world.clients number) (slice_get run.trace.world.sent place) client taken (sym (seen_taken seen images old run shows number place) ∙ took)
-        (λ s e. ap (λ (c : ClientV). c.seq) (same_Some s.client client (sym (ap client_in e) ∙ sym (client_is seen images old run shows number) ∙ is)))
+      (λ s e. ap (λ (c : ClientV). c.seq) (same_Some s.client client (sym (ap client_in e) ∙ sym (client_is seen images old run shows number) ∙ is)))
 
   -- whether the client is redirected, by whether it has a call open afterwards
   pub take_redirects : (taken : Taken) (busy : Bool) → taken_of (client_at old.clients number) (slice_get old.sent place) ≡ Some taken → is_busy (client_at new.clients number) ≡ busy → shown.Happens seen images old new (Take number place)
@@ -114,5 +113,5 @@ module _ {X : Type 0} (seen : X → Contents) (images : X → Image → Type 0) 
   take_redirects taken busy took is happens run shows =
       let same : is_redirected (Some taken) ≡ redirects run.trace.world number place = ap is_redirected (sym took ∙ seen_taken seen images old run shows number place) in
       and_same busy (is_redirected (Some taken))
-        (λ e. sym is ∙ seen_busy seen images new (grown run (Take number place)) (happens run shows).then number ∙ busy_by run number place _ _ refl refl (sym same ∙ e))
+      (λ e. sym is ∙ seen_busy seen images new (grown run (Take number place)) (happens run shows).then number ∙ busy_by run number place _ _ refl refl (sym same ∙ e))
       ∙ same

@@ -1,19 +1,17 @@
 -- What waits is delivered, the first message first, until nothing is due.
-use Rattle.std.proofs.Common.{◌≡◌, ◌∙◌, sym, ap, subst, refl, ℕ, ◌+◌, ◌<◌, ◌≤◌, ◌^◌, Bool, true, false, ◌&&◌, not, is_some, List, [], ◌∷◌, ◌++◌, length, Option, Some, None, inl, inr, arith}
-use Rattle.std.specs.Prelude.{◌⊎◌}
+use Rattle.std.proofs.Common.{◌≡◌, ◌∙◌, sym, ap, subst, refl, ℕ, ◌+◌, ◌<◌, ◌≤◌, ◌^◌, Bool, true, false, ◌&&◌, is_some, List, [], ◌++◌, length, Option, Some, None, inl, inr, arith}
 use Rattle.std.specs.List.{slice_get}
-use Rattle.std.proofs.lemmas.List.{length-append}
 use Rattle.mds_base.specs.declared.setup.Which.TheVariants as limits
 use Rattle.mds_out.specs.Disk.{Image, Contents}
-use Rattle.simulation.specs.Runs.{RunV, grown}
+use Rattle.simulation.specs.Runs.{RunV}
 use Rattle.simulation.specs.Shows.{SimulationV, Shows, IsDue, IsFirst, server_for}
 use Rattle.world.specs.declared.event.Event.{Event}
 use Rattle.interpreter.specs.declared.interpreter.Halt.{Halt}
 use Rattle.interpreter.specs.declared.interpreter.Halt.TheVariants as halts
-use Rattle.interpreter.specs.Steps.{Goes, GoesBy, Carries, Halts, HaltsBy, IsDeliveredTo, OrNone}
-use Rattle.interpreter.specs.Story.{grown_by, up_at, is_due, IsFirstDue, IsServedFirst, IsDelivery, IsSettled, IsSettling}
+use Rattle.interpreter.specs.Steps.{Carries, Halts, IsDeliveredTo, OrNone}
+use Rattle.interpreter.specs.Story.{grown_by, up_at, is_due, IsFirstDue, IsDelivery, IsSettled, IsSettling}
 use Rattle.interpreter.proofs.Happening.{is_false}
-use Rattle.interpreter.proofs.Looping.{SoFar, Round, so_far_none, so_far_more, so_far_ends, so_far_halts, so_far_crowded}
+use Rattle.interpreter.proofs.Looping.{SoFar, so_far_none, so_far_more, so_far_ends, so_far_halts, so_far_crowded}
 use Rattle.interpreter.proofs.Sights.{seen_msg, due_seen, due_waits}
 use Rattle.interpreter.proofs.Stepping.{grown_length, goes_none, halts_kind}
 
@@ -80,27 +78,27 @@ module _ {X : Type 0} (seen : X → Contents) (images : X → Image → Type 0) 
         let there = first_seen mid (grown_by run f.events) f.goes.shows stores place due in
         let d = carries (for_some mid (grown_by run f.events) f.goes.shows place there.due) (grown_by run f.events) f.goes.shows in
         so_far_more seen images mid new was at now run rounds (IsSettled run) (IsSettling run) IsSettled IsSettling IsSettled IsSettling f
-          (record {
-            events = d.events;
-            goes = d.goes;
-            some = some_one place first (grown_by run f.events) d.events d.are;
-            ends = λ more is. settles_one (grown_by run f.events) place first d.events more there d.are is;
-            begins = λ more is. settling_one (grown_by run f.events) place first d.events more there d.are is;
-          });
+        (record {
+          events = d.events;
+          goes = d.goes;
+          some = some_one place first (grown_by run f.events) d.events d.are;
+          ends = λ more is. settles_one (grown_by run f.events) place first d.events more there d.are is;
+          begins = λ more is. settling_one (grown_by run f.events) place first d.events more there d.are is;
+        });
     few = λ run shows some.
         let f = s.so_far run shows in
         let there = first_seen mid (grown_by run f.events) f.goes.shows stores place due in
         let for = for_some mid (grown_by run f.events) f.goes.shows place there.due in
         let d = carries for (grown_by run f.events) f.goes.shows in
         one_more (length (grown_by run f.events).events) (length (grown_by (grown_by run f.events) d.events).events) (length d.events) mid.count new.count
-          f.goes.shows.count (grown_length (grown_by run f.events) d.events) (ap length d.are.one) d.goes.shows.count (few for);
+        f.goes.shows.count (grown_length (grown_by run f.events) d.events) (ap length d.are.one) d.goes.shows.count (few for);
   }
 
   pub settles_ends : (old new : SimulationV X) (was now : List ℕ) (rounds : ℕ) → Settles old new was now rounds → length new.stores ≡ new.setup.servers → IsFirst (IsDue new new.setup.servers) None → Carries seen images old new was now IsSettled
   settles_ends old new was now rounds s stores none run shows =
       let f = s.so_far run shows in
       so_far_ends seen images new new was now now run rounds (IsSettled run) (IsSettling run) IsSettled IsSettling f
-        (record { events = []; are = none_seen new (grown_by run f.events) f.goes.shows stores none; goes = goes_none seen images new now now (grown_by run f.events) f.goes.shows refl })
+      (record { events = []; are = none_seen new (grown_by run f.events) f.goes.shows stores none; goes = goes_none seen images new now now (grown_by run f.events) f.goes.shows refl })
 
   settling_delivery : (run : RunV) (place : ℕ) (events : List Event) → IsFirstDue run place → OrNone (λ r. IsDelivery r place) run events → IsSettling run events
   settling_delivery run place events due (inl none) = subst (IsSettling run) (sym none) tt
@@ -112,8 +110,8 @@ module _ {X : Type 0} (seen : X → Contents) (images : X → Image → Type 0) 
       let f = s.so_far run shows in
       let there = first_seen mid (grown_by run f.events) f.goes.shows stores place due in
       so_far_halts seen images mid new was at now run rounds (IsSettled run) (IsSettling run) IsSettled IsSettling halt f
-        (halts_kind seen images new at now (grown_by run f.events) (OrNone (λ r. IsDelivery r place) (grown_by run f.events)) (IsSettling (grown_by run f.events)) halt
-          (λ es is. settling_delivery (grown_by run f.events) place es there is) (h (grown_by run f.events) f.goes.shows))
+      (halts_kind seen images new at now (grown_by run f.events) (OrNone (λ r. IsDelivery r place) (grown_by run f.events)) (IsSettling (grown_by run f.events)) halt
+      (λ es is. settling_delivery (grown_by run f.events) place es there is) (h (grown_by run f.events) f.goes.shows))
 
   pub settles_full : (old sim : SimulationV X) (was now : List ℕ) (rounds : ℕ) → 2 ^ 20 < rounds → Settles old sim was now rounds → Halts seen images old sim was now IsSettling (halts.Limit limits.Events)
   settles_full old sim was now rounds enough s run shows =

@@ -1,7 +1,6 @@
 -- What a simulation tells of the world of the run that it shows.
-use Rattle.std.proofs.Common.{◌≡◌, ◌∙◌, sym, ap, subst, refl, ℕ, zero, suc, ◌<◌, ◌≤◌, ◌&&◌, ◌==◌, not, Bool, true, false, is_some, List, [], ◌∷◌, length, Option, Some, None, arith}
+use Rattle.std.proofs.Common.{◌≡◌, ◌∙◌, sym, ap, subst, refl, ℕ, zero, suc, ◌<◌, ◌&&◌, ◌==◌, not, Bool, true, false, is_some, List, [], ◌∷◌, length, Option, Some, None, arith}
 use Rattle.std.specs.List.{slice_get}
-use Rattle.std.specs.FinSet as set
 use Rattle.std.proofs.lemmas.Bool.{and_parts, and_from, eq-eqb, eqb-true}
 use Rattle.std.proofs.lemmas.Option.{same_Some}
 use Rattle.mds_out.specs.Disk.{Image, Contents}
@@ -23,7 +22,6 @@ use Rattle.simulation.specs.Shows as shown
 use Rattle.simulation.proofs.Seats.{clients_of}
 use Rattle.interpreter.specs.Steps.{allows}
 use Rattle.interpreter.specs.Story.{seat_is_idle, seat_is_busy, taken_by, up_at, is_due, is_allowed}
-use Rattle.interpreter.specs.Story as story
 
 -- ---- clients
 

@@ -1,20 +1,17 @@
 -- Events that happen one after another, and their text.
-use Rattle.std.proofs.Common.{◌≡◌, ◌∙◌, sym, ap, subst, refl, ℕ, ◌+◌, ◌<◌, ◌≤◌, ◌^◌, ◌&&◌, Bool, true, false, List, [], ◌∷◌, ◌++◌, length, Option, Some, None, inl, inr, append_assoc, arith}
+use Rattle.std.proofs.Common.{◌≡◌, ◌∙◌, sym, ap, subst, refl, ℕ, ◌+◌, true, List, [], ◌∷◌, ◌++◌, length, inl, append_assoc, arith}
 use Rattle.std.proofs.lemmas.Bool.{and_parts, and_from}
 use Rattle.std.proofs.lemmas.List.{append-nil, length-append}
 use Rattle.mds_base.specs.declared.setup.Which.{Which}
-use Rattle.mds_base.specs.declared.setup.Which.TheVariants as limits
 use Rattle.mds_out.specs.Disk.{Image, Contents}
-use Rattle.node_store.specs.Store.{Store}
 use Rattle.simulation.specs.Runs.{RunV, GoesOn, grown}
-use Rattle.simulation.specs.Shows.{SimulationV, Shows, StandNear, StaysNear, ShowsSame}
-use Rattle.simulation.specs.Shows as shown
+use Rattle.simulation.specs.Shows.{SimulationV, Shows, StandNear}
 use Rattle.world.specs.declared.event.Event.{Event}
 use Rattle.world.specs.Events.{enabled}
 use Rattle.interpreter.specs.declared.interpreter.Halt.{Halt}
 use Rattle.interpreter.specs.declared.interpreter.Halt.TheVariants as halts
 use Rattle.interpreter.specs.EventText.{event_text, events_text}
-use Rattle.interpreter.specs.Steps.{Goes, GoesBy, Carries, Halts, HaltsBy, HaltsAt, IsAtLimit, Passes, PutsFront, OrNone, IsEvent}
+use Rattle.interpreter.specs.Steps.{Goes, GoesBy, HaltsBy, HaltsAt, Passes, PutsFront}
 use Rattle.interpreter.specs.Story.{grown_by, all_may}
 
 -- ---- events, and events after them
@@ -87,13 +84,14 @@ module _ {X : Type 0} (seen : X → Contents) (images : X → Image → Type 0) 
 
   at_behind : (mid new : SimulationV X) (was at now : List ℕ) (run : RunV) (events more : List Event) (P Q : List Event → Type 0) (halt : Halt) → Goes seen images mid was at run events → ((es : List Event) → P es → Q (events ++ es))
       → HaltsAt seen images new at now (grown_by run events) more P halt → HaltsAt seen images new was now run (events ++ more) Q halt
-  at_behind mid new was at now run events more P Q (halts.Limit which) g lift h =
-      (goes_join mid new was at now run events more g h.0,
-       record {
-         next = h.1.next;
-         comes = subst Q (sym (append_assoc events more (h.1.next ∷ []))) (lift (more ++ h.1.next ∷ []) h.1.comes);
-         passes = subst (λ r. Passes which r h.1.next) (sym (grown_append run events more)) h.1.passes;
-       })
+  at_behind mid new was at now run events more P Q (halts.Limit which) g lift h = (
+    goes_join mid new was at now run events more g h.0,
+    record {
+      next = h.1.next;
+      comes = subst Q (sym (append_assoc events more (h.1.next ∷ []))) (lift (more ++ h.1.next ∷ []) h.1.comes);
+      passes = subst (λ r. Passes which r h.1.next) (sym (grown_append run events more)) h.1.passes;
+    },
+  )
   at_behind mid new was at now run events more P Q (halts.Damaged server file place damage) g lift h = h
   at_behind mid new was at now run events more P Q halts.OutOfMemory g lift h = tt
 

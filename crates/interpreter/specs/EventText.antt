@@ -3,11 +3,10 @@ use Rattle.std.specs.Prelude.{ℕ, List, [], ◌∷◌, ◌++◌, Option, Some, 
 use Rattle.std.specs.List.{slice_get}
 use Rattle.client_core.specs.Taking as taking
 use Rattle.records.specs.declared.msg.Msg.{Msg}
-use Rattle.records.specs.declared.msg.Msg.TheVariants.{Request, Transfer, Installed}
 use Rattle.simulation.specs.Runs.{RunV, grown}
 use Rattle.simulation.specs.Shows.{server_for}
 use Rattle.world.specs.declared.event.Event.{Event}
-use Rattle.world.specs.declared.event.Event.TheVariants.{Issue, Resend, Serve, Miss, Take, Stop, Restart, Tick}
+use Rattle.world.specs.declared.event.Event.TheVariants.{Serve, Miss, Take, Stop}
 use Rattle.world.specs.declared.event.ServeEnd.TheVariants as ends
 use Rattle.world.specs.declared.event.StopCause.TheVariants.{Device}
 use Rattle.world.specs.declared.state.ClientState.{ClientState}

@@ -1,11 +1,10 @@
 -- What the lines of a script do, as events. Open is only which Serves and restarts the device stops, and what a restart
 -- keeps.
-use Rattle.std.specs.Prelude.{◌≡◌, ◌⊎◌, ℕ, ◌≤◌, ◌&&◌, Bool, true, false, not, is_some, nat_lt, List, [], ◌∷◌, ◌++◌, length, Option, Some, None}
+use Rattle.std.specs.Prelude.{◌≡◌, ◌⊎◌, ℕ, ◌≤◌, ◌&&◌, Bool, true, false, not, is_some, nat_lt, List, [], ◌∷◌, length, Option, Some, None}
 use Rattle.std.specs.List.{slice_get}
 use Rattle.mds_base.specs.declared.setup.Setup.{Setup}
 use Rattle.client_core.specs.declared.taken.Taken.{Taken}
 use Rattle.client_core.specs.declared.taken.Taken.TheVariants as takes
-use Rattle.client_core.specs.Clients.{ClientV}
 use Rattle.client_core.specs.Taking as taking
 use Rattle.records.specs.declared.msg.Msg.{Msg}
 use Rattle.script.specs.Grammar.{IsLine}

@@ -7,7 +7,7 @@ use Rattle.interpreter.proofs.interpreter.Interpreter.follow.Goals as goal
 pub returns-in_err-round-clause-err : goal.returns-in_err-round-clause-err
 returns-in_err-round-clause-err g c =
     err_at _ c.in_err-round.field-0.0 _ c.from_residual.ensures.1
-      (follows_halts (seen_by g.D.Disk.seen) (images_by g.D.Disk.images) c.args.self.now.simulation c.loop.self.simulation c.round.new.self.simulation c.args.self.now.pending.items c.loop.self.pending.items c.round.new.self.pending.items c.args.client c.args.place c.loop.next c.loop.counter c.in_err-round.field-0.0 c.loop.invariant c.in_err-round.ensures.err)
+    (follows_halts (seen_by g.D.Disk.seen) (images_by g.D.Disk.images) c.args.self.now.simulation c.loop.self.simulation c.round.new.self.simulation c.args.self.now.pending.items c.loop.self.pending.items c.round.new.self.pending.items c.args.client c.args.place c.loop.next c.loop.counter c.in_err-round.field-0.0 c.loop.invariant c.in_err-round.ensures.err)
 
 pub returns-in-None-clause-ok : goal.returns-in-None-clause-ok
 returns-in-None-clause-ok g c =
@@ -16,7 +16,7 @@ returns-in-None-clause-ok g c =
 pub loop-preserved : goal.loop-preserved
 loop-preserved g c =
     follows_more (seen_by g.D.Disk.seen) (images_by g.D.Disk.images) c.args.self.now.simulation c.loop.self.simulation c.round.new.self.simulation c.args.self.now.pending.items c.loop.self.pending.items c.round.new.self.pending.items c.args.client c.args.place c.loop.next c.in-Some.place c.loop.counter c.loop.invariant c.round.ensures.setup
-      (rw c.in-Some.is at c.in_ok-round.ensures.request) (rw c.in-Some.is at c.in_ok-round.ensures.ok)
+    (rw c.in-Some.is at c.in_ok-round.ensures.request) (rw c.in-Some.is at c.in_ok-round.ensures.ok)
 
 pub returns-clause-err : goal.returns-clause-err
 returns-clause-err g c =

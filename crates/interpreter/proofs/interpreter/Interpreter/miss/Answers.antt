@@ -7,9 +7,9 @@ use Rattle.interpreter.proofs.interpreter.Interpreter.miss.Goals as goal
 pub returns-in_err-admit-clause-err : goal.returns-in_err-admit-clause-err
 returns-in_err-admit-clause-err g c =
     err_at _ c.in_err-admit.field-0.0 _ c.from_residual.ensures.1
-      (full_miss (seen_by g.D.Disk.seen) (images_by g.D.Disk.images) c.args.self.now.simulation c.args.self.now.pending.items c.args.server c.args.place c.in_err-admit.field-0.0 c.requires.server c.requires.down c.in_err-admit.ensures)
+    (full_miss (seen_by g.D.Disk.seen) (images_by g.D.Disk.images) c.args.self.now.simulation c.args.self.now.pending.items c.args.server c.args.place c.in_err-admit.field-0.0 c.requires.server c.requires.down c.in_err-admit.ensures)
 
 pub returns-clause-ok : goal.returns-clause-ok
 returns-clause-ok g c =
     done_printed (seen_by g.D.Disk.seen) (images_by g.D.Disk.images) c.args.self.now.simulation c.miss.new.self c.print.new.self.simulation c.args.self.now.pending.items c.print.new.self.pending.items _ (IsDeliveredTo c.args.place None) c.in_ok-print.ensures.simulation
-      (missed_does (seen_by g.D.Disk.seen) (images_by g.D.Disk.images) c.args.self.now.simulation c.miss.new.self c.args.server c.args.place c.requires.server c.requires.down c.miss.ensures.happens c.miss.ensures.after) c.in_ok-print.ensures.ok
+    (missed_does (seen_by g.D.Disk.seen) (images_by g.D.Disk.images) c.args.self.now.simulation c.miss.new.self c.args.server c.args.place c.requires.server c.requires.down c.miss.ensures.happens c.miss.ensures.after) c.in_ok-print.ensures.ok

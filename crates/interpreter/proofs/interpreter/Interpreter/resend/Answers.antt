@@ -9,9 +9,9 @@ use Rattle.interpreter.proofs.interpreter.Interpreter.resend.Goals as goal
 pub returns-in_err-admit-clause-err : goal.returns-in_err-admit-clause-err
 returns-in_err-admit-clause-err g c =
     err_at _ c.in_err-admit.field-0.0 _ c.from_residual.ensures.1
-      (full_event (seen_by g.D.Disk.seen) (images_by g.D.Disk.images) c.args.self.now.simulation c.args.self.now.pending.items (Resend c.args.client) c.in_err-admit.field-0.0 c.in_err-admit.ensures)
+    (full_event (seen_by g.D.Disk.seen) (images_by g.D.Disk.images) c.args.self.now.simulation c.args.self.now.pending.items (Resend c.args.client) c.in_err-admit.field-0.0 c.in_err-admit.ensures)
 
 pub returns-in_err-place-clause-err : goal.returns-in_err-place-clause-err
 returns-in_err-place-clause-err g c =
     err_at _ OutOfMemory _ c.from_residual-in_err-place.ensures.1
-      (refused (seen_by g.D.Disk.seen) (images_by g.D.Disk.images) c.args.self.now.simulation c.resend.new.self c.args.self.now.pending.items c.args.self.now.pending.items (IsEvent (Resend c.args.client)) c.in_err-place.ensures.err c.resend.ensures.setup refl)
+    (refused (seen_by g.D.Disk.seen) (images_by g.D.Disk.images) c.args.self.now.simulation c.resend.new.self c.args.self.now.pending.items c.args.self.now.pending.items (IsEvent (Resend c.args.client)) c.in_err-place.ensures.err c.resend.ensures.setup refl)

@@ -9,14 +9,14 @@ use Rattle.interpreter.proofs.interpreter.Interpreter.retry.Goals as goal
 pub returns-in_err-place-clause-err : goal.returns-in_err-place-clause-err
 returns-in_err-place-clause-err g c =
     err_at _ c.in_err-place.field-0.0 _ c.from_residual.ensures.1
-      (unsent_halts (seen_by g.D.Disk.seen) (images_by g.D.Disk.images) c.args.self.now.simulation c.resend.new.self.simulation c.args.self.now.pending.items c.resend.new.self.pending.items c.args.client (Resend c.args.client) c.in_err-place.field-0.0 c.in_err-place.ensures.err)
+    (unsent_halts (seen_by g.D.Disk.seen) (images_by g.D.Disk.images) c.args.self.now.simulation c.resend.new.self.simulation c.args.self.now.pending.items c.resend.new.self.pending.items c.args.client (Resend c.args.client) c.in_err-place.field-0.0 c.in_err-place.ensures.err)
 
 pub returns-clause-ok : goal.returns-clause-ok
 returns-clause-ok g c =
     on_ok c.follow.result c.follow.ensures.ok
-      (sent_followed (seen_by g.D.Disk.seen) (images_by g.D.Disk.images) c.args.self.now.simulation c.resend.new.self.simulation c.follow.new.self.simulation c.args.self.now.pending.items c.resend.new.self.pending.items c.follow.new.self.pending.items c.args.client c.in_ok-place.place (Resend c.args.client) c.in_ok-place.ensures.ok c.in_ok-place.ensures.place)
+    (sent_followed (seen_by g.D.Disk.seen) (images_by g.D.Disk.images) c.args.self.now.simulation c.resend.new.self.simulation c.follow.new.self.simulation c.args.self.now.pending.items c.resend.new.self.pending.items c.follow.new.self.pending.items c.args.client c.in_ok-place.place (Resend c.args.client) c.in_ok-place.ensures.ok c.in_ok-place.ensures.place)
 
 pub returns-clause-err : goal.returns-clause-err
 returns-clause-err g c =
     on_err (Halts (seen_by g.D.Disk.seen) (images_by g.D.Disk.images) c.resend.new.self.simulation c.follow.new.self.simulation c.resend.new.self.pending.items c.follow.new.self.pending.items (λ run. IsFollowing run c.args.client c.in_ok-place.place)) (Halts (seen_by g.D.Disk.seen) (images_by g.D.Disk.images) c.args.self.now.simulation c.follow.new.self.simulation c.args.self.now.pending.items c.follow.new.self.pending.items (λ run. IsSending run c.args.client (Resend c.args.client))) c.follow.result c.follow.ensures.err
-      (λ halt. sent_halts (seen_by g.D.Disk.seen) (images_by g.D.Disk.images) c.args.self.now.simulation c.resend.new.self.simulation c.follow.new.self.simulation c.args.self.now.pending.items c.resend.new.self.pending.items c.follow.new.self.pending.items c.args.client c.in_ok-place.place (Resend c.args.client) halt c.in_ok-place.ensures.ok c.in_ok-place.ensures.place)
+    (λ halt. sent_halts (seen_by g.D.Disk.seen) (images_by g.D.Disk.images) c.args.self.now.simulation c.resend.new.self.simulation c.follow.new.self.simulation c.args.self.now.pending.items c.resend.new.self.pending.items c.follow.new.self.pending.items c.args.client c.in_ok-place.place (Resend c.args.client) halt c.in_ok-place.ensures.ok c.in_ok-place.ensures.place)

@@ -9,7 +9,7 @@ use Rattle.interpreter.proofs.interpreter.Interpreter.serve.Goals as goal
 pub returns-in_err-admit-clause-err : goal.returns-in_err-admit-clause-err
 returns-in_err-admit-clause-err g c =
     err_at _ c.in_err-admit.field-0.0 _ c.from_residual.ensures.1
-      (full_serve (seen_by g.D.Disk.seen) (images_by g.D.Disk.images) c.args.self.now.simulation c.args.self.now.pending.items c.args.server c.args.place c.in_err-admit.field-0.0 c.requires.server c.requires.up c.in_err-admit.ensures)
+    (full_serve (seen_by g.D.Disk.seen) (images_by g.D.Disk.images) c.args.self.now.simulation c.args.self.now.pending.items c.args.server c.args.place c.in_err-admit.field-0.0 c.requires.server c.requires.up c.in_err-admit.ensures)
 
 pub returns-then-not-has_numbers-clause-err : goal.returns-then-not-has_numbers-clause-err
 returns-then-not-has_numbers-clause-err g c =
@@ -18,25 +18,25 @@ returns-then-not-has_numbers-clause-err g c =
 pub returns-in_err-place-clause-err : goal.returns-in_err-place-clause-err
 returns-in_err-place-clause-err g c =
     err_at _ OutOfMemory _ c.from_residual-in_err-place.ensures.1
-      (refused (seen_by g.D.Disk.seen) (images_by g.D.Disk.images) c.args.self.now.simulation c.serve.new.self c.args.self.now.pending.items c.args.self.now.pending.items (λ run. IsDelivery run c.args.place) c.in_err-place.ensures.err c.serve.ensures.setup refl)
+    (refused (seen_by g.D.Disk.seen) (images_by g.D.Disk.images) c.args.self.now.simulation c.serve.new.self c.args.self.now.pending.items c.args.self.now.pending.items (λ run. IsDelivery run c.args.place) c.in_err-place.ensures.err c.serve.ensures.setup refl)
 
 pub returns-in_err-print-in-Stopped-clause-err : goal.returns-in_err-print-in-Stopped-clause-err
 returns-in_err-print-in-Stopped-clause-err g c =
     err_at _ OutOfMemory _ c.from_residual-in_err-print-in-Stopped.ensures.1
-      (not_printed (seen_by g.D.Disk.seen) (images_by g.D.Disk.images) c.args.self.now.simulation c.serve.new.self c.print.new.self.simulation c.args.self.now.pending.items c.print.new.self.pending.items _ (λ run. IsDelivery run c.args.place) c.in_err-print-in-Stopped.ensures.simulation
-        (delivery (seen_by g.D.Disk.seen) (images_by g.D.Disk.images) c.args.self.now.simulation c.serve.new.self c.args.place None _ (stopped_does (seen_by g.D.Disk.seen) (images_by g.D.Disk.images) c.args.self.now.simulation c.serve.new.self c.args.server c.args.place c.requires.server c.requires.up (rw c.in-Stopped.is at (c.in_ok-place.ensures.ok c.args.server c.requires.server)))) c.in_err-print-in-Stopped.ensures.err)
+    (not_printed (seen_by g.D.Disk.seen) (images_by g.D.Disk.images) c.args.self.now.simulation c.serve.new.self c.print.new.self.simulation c.args.self.now.pending.items c.print.new.self.pending.items _ (λ run. IsDelivery run c.args.place) c.in_err-print-in-Stopped.ensures.simulation
+    (delivery (seen_by g.D.Disk.seen) (images_by g.D.Disk.images) c.args.self.now.simulation c.serve.new.self c.args.place None _ (stopped_does (seen_by g.D.Disk.seen) (images_by g.D.Disk.images) c.args.self.now.simulation c.serve.new.self c.args.server c.args.place c.requires.server c.requires.up (rw c.in-Stopped.is at (c.in_ok-place.ensures.ok c.args.server c.requires.server)))) c.in_err-print-in-Stopped.ensures.err)
 
 pub returns-in-Answered-clause-ok : goal.returns-in-Answered-clause-ok
 returns-in-Answered-clause-ok g c =
     done_silently (seen_by g.D.Disk.seen) (images_by g.D.Disk.images) c.args.self.now.simulation c.serve.new.self c.args.self.now.pending.items c.args.self.now.pending.items (IsDeliveredTo c.args.place (Some c.in-Answered.place))
-      (answered_does (seen_by g.D.Disk.seen) (images_by g.D.Disk.images) c.args.self.now.simulation c.serve.new.self c.args.server c.args.place c.requires.server c.in-Answered.place c.requires.up (rw c.in-Answered.is at (c.in_ok-place.ensures.ok c.args.server c.requires.server))) refl
+    (answered_does (seen_by g.D.Disk.seen) (images_by g.D.Disk.images) c.args.self.now.simulation c.serve.new.self c.args.server c.args.place c.requires.server c.in-Answered.place c.requires.up (rw c.in-Answered.is at (c.in_ok-place.ensures.ok c.args.server c.requires.server))) refl
 
 pub returns-in-Silent-clause-ok : goal.returns-in-Silent-clause-ok
 returns-in-Silent-clause-ok g c =
     done_silently (seen_by g.D.Disk.seen) (images_by g.D.Disk.images) c.args.self.now.simulation c.serve.new.self c.args.self.now.pending.items c.args.self.now.pending.items (IsDeliveredTo c.args.place None)
-      (silent_does (seen_by g.D.Disk.seen) (images_by g.D.Disk.images) c.args.self.now.simulation c.serve.new.self c.args.server c.args.place c.requires.server c.requires.up (rw c.in-Silent.is at (c.in_ok-place.ensures.ok c.args.server c.requires.server))) refl
+    (silent_does (seen_by g.D.Disk.seen) (images_by g.D.Disk.images) c.args.self.now.simulation c.serve.new.self c.args.server c.args.place c.requires.server c.requires.up (rw c.in-Silent.is at (c.in_ok-place.ensures.ok c.args.server c.requires.server))) refl
 
 pub returns-in_ok-print-in-Stopped-clause-ok : goal.returns-in_ok-print-in-Stopped-clause-ok
 returns-in_ok-print-in-Stopped-clause-ok g c =
     done_printed (seen_by g.D.Disk.seen) (images_by g.D.Disk.images) c.args.self.now.simulation c.serve.new.self c.print.new.self.simulation c.args.self.now.pending.items c.print.new.self.pending.items _ (IsDeliveredTo c.args.place None) c.in_ok-print-in-Stopped.ensures.simulation
-      (stopped_does (seen_by g.D.Disk.seen) (images_by g.D.Disk.images) c.args.self.now.simulation c.serve.new.self c.args.server c.args.place c.requires.server c.requires.up (rw c.in-Stopped.is at (c.in_ok-place.ensures.ok c.args.server c.requires.server))) c.in_ok-print-in-Stopped.ensures.ok
+    (stopped_does (seen_by g.D.Disk.seen) (images_by g.D.Disk.images) c.args.self.now.simulation c.serve.new.self c.args.server c.args.place c.requires.server c.requires.up (rw c.in-Stopped.is at (c.in_ok-place.ensures.ok c.args.server c.requires.server))) c.in_ok-print-in-Stopped.ensures.ok

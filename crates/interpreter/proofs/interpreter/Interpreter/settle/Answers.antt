@@ -11,7 +11,7 @@ returns-in_default-clause-ok g c =
 pub returns-in_err-deliver-clause-err : goal.returns-in_err-deliver-clause-err
 returns-in_err-deliver-clause-err g c =
     err_at _ c.in_err-deliver.field-0.0 _ c.from_residual.ensures.1
-      (settles_halts (seen_by g.D.Disk.seen) (images_by g.D.Disk.images) c.args.self.now.simulation c.loop.self.simulation c.deliver.new.self.simulation c.args.self.now.pending.items c.loop.self.pending.items c.deliver.new.self.pending.items c.loop.counter c.in-Some.place c.in_err-deliver.field-0.0 c.loop.invariant c.in-Some.ensures.stores c.in-Some.ensures.first c.in_err-deliver.ensures.err)
+    (settles_halts (seen_by g.D.Disk.seen) (images_by g.D.Disk.images) c.args.self.now.simulation c.loop.self.simulation c.deliver.new.self.simulation c.args.self.now.pending.items c.loop.self.pending.items c.deliver.new.self.pending.items c.loop.counter c.in-Some.place c.in_err-deliver.field-0.0 c.loop.invariant c.in-Some.ensures.stores c.in-Some.ensures.first c.in_err-deliver.ensures.err)
 
 pub loop-preserved : goal.loop-preserved
 loop-preserved g c =

@@ -7,4 +7,4 @@ use Rattle.interpreter.proofs.interpreter.Interpreter.stop.Goals as goal
 pub returns-in_err-admit-clause-err : goal.returns-in_err-admit-clause-err
 returns-in_err-admit-clause-err g c =
     err_at _ c.in_err-admit.field-0.0 _ c.from_residual.ensures.1
-      (full_event (seen_by g.D.Disk.seen) (images_by g.D.Disk.images) c.args.self.now.simulation c.args.self.now.pending.items (Stop c.args.server Asked) c.in_err-admit.field-0.0 c.in_err-admit.ensures)
+    (full_event (seen_by g.D.Disk.seen) (images_by g.D.Disk.images) c.args.self.now.simulation c.args.self.now.pending.items (Stop c.args.server Asked) c.in_err-admit.field-0.0 c.in_err-admit.ensures)
