@@ -1,4 +1,6 @@
 //! Scripts over memory disks, and the text of each.
+ghost use Rattle.std.specs.Prelude.{◌≡◌, length};
+
 use crate::{EffectLine, Interpreter};
 use mds_base::Setup;
 use mds_out::{Memory, Outcome};
@@ -19,6 +21,12 @@ const SETUP: Setup = Setup {
 fn opened(alloc: Global, outcome: Outcome) -> Result<Interpreter<Memory>, Fail> {
     let mut disks = Vec::new(alloc);
     disks.push(Memory::new(alloc, outcome, Vec::new(alloc))?)?;
+    opened_on(alloc, disks)
+}
+
+fn opened_on(alloc: Global, disks: Vec<Memory>) -> Result<Interpreter<Memory>, Fail>
+    requires { length disks.items ≡ 1 }
+{
     match Simulation::open(alloc, SETUP, disks) {
         Ok(simulation) => Ok(Interpreter::new(alloc, simulation)),
         Err(_) => Err(AllocError.into()),
@@ -73,7 +81,14 @@ fn lines_print_their_events(rt: HostRuntime) -> Result<(), Fail> {
     let table = [
         // A reply is lost, and another comes late.
         (
-            ["issue 1 create 1 a", "deliver 0", "retry 1", "deliver 0", "take 1 4"].as_slice(),
+            [
+                "issue 1 create 1 a",
+                "deliver 0",
+                "retry 1",
+                "deliver 0",
+                "take 1 4",
+            ]
+            .as_slice(),
             "1 1 created\n= 1 1 create 1 a created\n",
         ),
         // Two clients make one name.
@@ -91,12 +106,26 @@ fn lines_print_their_events(rt: HostRuntime) -> Result<(), Fail> {
         ),
         // What waits is served in the order in which it was sent.
         (
-            ["issue 2 create 1 b", "issue 1 create 1 a", "settle", "take 2 2", "take 1 3"].as_slice(),
+            [
+                "issue 2 create 1 b",
+                "issue 1 create 1 a",
+                "settle",
+                "take 2 2",
+                "take 1 3",
+            ]
+            .as_slice(),
             "2 1 created\n1 1 created\n= 2 1 create 1 b created\n= 1 1 create 1 a created\n",
         ),
         // A message meets a server that is down.
         (
-            ["stop 0", "call 1 create 1 a", "restart 0", "tick 1", "retry 1"].as_slice(),
+            [
+                "stop 0",
+                "call 1 create 1 a",
+                "restart 0",
+                "tick 1",
+                "retry 1",
+            ]
+            .as_slice(),
             "down 0\n1 1 created\n= 1 1 create 1 a created\n",
         ),
         // Each kind of call.
@@ -114,6 +143,12 @@ fn lines_print_their_events(rt: HostRuntime) -> Result<(), Fail> {
              = 1 1 create 1 a%20b created\n= 1 2 setattr 1 a%20b 493 7 set\n\
              = 1 3 lookup 1 a%20b found file 493 7\n= 1 4 remove 1 a%20b removed\n\
              = 1 5 lookup 1 a%20b missing\n",
+        ),
+        // Directories; the first number that server 0 gives is 2.
+        (
+            ["call 1 mkdir 1 d", "call 1 lookup 1 d", "call 1 remove 1 d"].as_slice(),
+            "1 1 created 2\n1 2 found dir 2 493 0\n1 3 isdir\n= 1 1 mkdir 1 d created 2\n\
+             = 1 2 lookup 1 d found dir 2 493 0\n= 1 3 remove 1 d isdir\n",
         ),
     ];
     for (lines, text) in table {
@@ -133,7 +168,10 @@ fn a_device_that_fails_stops_its_server(rt: HostRuntime) -> Result<(), Fail> {
                 outcome,
                 &[fuse, "call 1 create 1 a", "restart 0", "retry 1"],
             )?;
-            assert_eq!(rt; text.as_str(), "stopped 0\n1 1 created\n= 1 1 create 1 a created\n");
+            assert_eq!(rt;
+                text.as_str(),
+                "stopped 0\n1 1 created\n= 1 1 create 1 a created\n"
+            );
         }
     }
     Ok(())
@@ -157,5 +195,18 @@ fn lines_that_are_not_allowed(rt: HostRuntime) -> Result<(), Fail> {
         assert!(rt; carried(alloc, &mut interpreter, first.as_bytes())?);
         assert!(rt; !carried(alloc, &mut interpreter, second.as_bytes())?);
     }
+    Ok(())
+}
+
+#[test]
+fn the_disks_come_back_with_the_name(rt: HostRuntime) -> Result<(), Fail> {
+    let alloc = rt.alloc();
+    let mut first = opened(alloc, Outcome::Old)?;
+    assert!(rt; carried(alloc, &mut first, b"call 1 create 1 a".as_slice())?);
+    let disks = first.into_disks();
+    assert_eq!(rt; disks.len(), 1);
+    let mut second = opened_on(alloc, disks)?;
+    assert!(rt; carried(alloc, &mut second, b"call 2 create 1 a".as_slice())?);
+    assert_eq!(rt; second.pending.as_slice(), b"2 1 exists\n".as_slice());
     Ok(())
 }
