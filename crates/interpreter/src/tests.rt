@@ -52,15 +52,10 @@ fn carried(
     }
 }
 
-// The text of lines that are all allowed, and then the effects.
-fn text_of(
-    rt: &impl Abort,
-    alloc: Global,
-    outcome: Outcome,
-    lines: &[&str],
-) -> Result<String, Fail> {
+// The text of a script whose lines are all allowed, and then the effects.
+fn text_of(rt: &impl Abort, alloc: Global, outcome: Outcome, script: &str) -> Result<String, Fail> {
     let mut interpreter = opened(alloc, outcome)?;
-    for line in lines {
+    for line in script.split('\n') {
         assert!(rt; carried(alloc, &mut interpreter, line.as_bytes())?);
     }
     let mut text = String::new(alloc);
@@ -75,70 +70,48 @@ fn text_of(
     Ok(text)
 }
 
+// Carries out each script by itself, and compares its text.
+fn compare(rt: &impl Abort, alloc: Global, table: &[(&str, &str)]) -> Result<(), Fail> {
+    for (script, text) in table {
+        assert_eq!(rt; text_of(rt, alloc, Outcome::Old, script)?.as_str(), *text);
+    }
+    Ok(())
+}
+
 #[test]
 fn lines_print_their_events(rt: HostRuntime) -> Result<(), Fail> {
-    let alloc = rt.alloc();
     let table = [
         // A reply is lost, and another comes late.
         (
-            [
-                "issue 1 create 1 a",
-                "deliver 0",
-                "retry 1",
-                "deliver 0",
-                "take 1 4",
-            ]
-            .as_slice(),
+            "issue 1 create 1 a\ndeliver 0\nretry 1\ndeliver 0\ntake 1 4",
             "1 1 created\n= 1 1 create 1 a created\n",
         ),
         // Two clients make one name.
         (
-            [
-                "issue 1 create 1 a",
-                "issue 2 create 1 a",
-                "deliver 1",
-                "deliver 0",
-                "take 2 2",
-                "take 1 3",
-            ]
-            .as_slice(),
+            "issue 1 create 1 a\nissue 2 create 1 a\ndeliver 1\ndeliver 0\ntake 2 2\ntake 1 3",
             "2 1 created\n1 1 exists\n= 2 1 create 1 a created\n= 1 1 create 1 a exists\n",
         ),
         // What waits is served in the order in which it was sent.
         (
-            [
-                "issue 2 create 1 b",
-                "issue 1 create 1 a",
-                "settle",
-                "take 2 2",
-                "take 1 3",
-            ]
-            .as_slice(),
+            "issue 2 create 1 b\nissue 1 create 1 a\nsettle\ntake 2 2\ntake 1 3",
             "2 1 created\n1 1 created\n= 2 1 create 1 b created\n= 1 1 create 1 a created\n",
         ),
         // A message meets a server that is down.
         (
-            [
-                "stop 0",
-                "call 1 create 1 a",
-                "restart 0",
-                "tick 1",
-                "retry 1",
-            ]
-            .as_slice(),
+            "stop 0\ncall 1 create 1 a\nrestart 0\ntick 1\nretry 1",
             "down 0\n1 1 created\n= 1 1 create 1 a created\n",
         ),
-        // Each kind of call.
+    ];
+    compare(&rt, rt.alloc(), &table)
+}
+
+#[test]
+fn calls_print_their_answers(rt: HostRuntime) -> Result<(), Fail> {
+    let table = [
+        // Each kind of call on a file.
         (
-            [
-                "# a comment",
-                "call 1 create 1 a%20b",
-                "call 1 setattr 1 a%20b 493 7",
-                "call 1 lookup 1 a%20b",
-                "call 1 remove 1 a%20b",
-                "call 1 lookup 1 a%20b",
-            ]
-            .as_slice(),
+            "# a comment\ncall 1 create 1 a%20b\ncall 1 setattr 1 a%20b 493 7\n\
+             call 1 lookup 1 a%20b\ncall 1 remove 1 a%20b\ncall 1 lookup 1 a%20b",
             "1 1 created\n1 2 set\n1 3 found file 493 7\n1 4 removed\n1 5 missing\n\
              = 1 1 create 1 a%20b created\n= 1 2 setattr 1 a%20b 493 7 set\n\
              = 1 3 lookup 1 a%20b found file 493 7\n= 1 4 remove 1 a%20b removed\n\
@@ -146,28 +119,23 @@ fn lines_print_their_events(rt: HostRuntime) -> Result<(), Fail> {
         ),
         // Directories; the first number that server 0 gives is 2.
         (
-            ["call 1 mkdir 1 d", "call 1 lookup 1 d", "call 1 remove 1 d"].as_slice(),
+            "call 1 mkdir 1 d\ncall 1 lookup 1 d\ncall 1 remove 1 d",
             "1 1 created 2\n1 2 found dir 2 493 0\n1 3 isdir\n= 1 1 mkdir 1 d created 2\n\
              = 1 2 lookup 1 d found dir 2 493 0\n= 1 3 remove 1 d isdir\n",
         ),
     ];
-    for (lines, text) in table {
-        assert_eq!(rt; text_of(&rt, alloc, Outcome::Old, lines)?.as_str(), text);
-    }
-    Ok(())
+    compare(&rt, rt.alloc(), &table)
 }
 
 #[test]
 fn a_device_that_fails_stops_its_server(rt: HostRuntime) -> Result<(), Fail> {
     let alloc = rt.alloc();
     for outcome in [Outcome::Old, Outcome::New] {
-        for fuse in ["fuse 0 0", "fuse 0 1", "fuse 0 2", "fuse 0 3"] {
-            let text = text_of(
-                &rt,
-                alloc,
-                outcome,
-                &[fuse, "call 1 create 1 a", "restart 0", "retry 1"],
+        for calls in 0..4 {
+            let script = format!(in alloc;
+                "fuse 0 {calls}\ncall 1 create 1 a\nrestart 0\nretry 1"
             )?;
+            let text = text_of(&rt, alloc, outcome, &script)?;
             assert_eq!(rt;
                 text.as_str(),
                 "stopped 0\n1 1 created\n= 1 1 create 1 a created\n"
