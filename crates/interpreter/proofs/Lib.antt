@@ -1,3 +1,4 @@
+pub mod Effecting
 pub mod Following
 pub mod Happening
 pub mod Looping

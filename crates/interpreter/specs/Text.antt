@@ -13,6 +13,8 @@ use Rattle.mds_base.specs.declared.entry.Entry.{Entry}
 use Rattle.client_core.specs.declared.taken.Taken.{Taken}
 use Rattle.client_core.specs.declared.taken.Taken.TheVariants as takes
 use Rattle.script.specs.Text.{name_text}
+use Rattle.simulation.specs.declared.made.Made.{Made}
+use Rattle.simulation.specs.Shows.{SimulationV, stands_in}
 
 -- a name in its directory, after a verb
 abbrev pub place_text : List ℕ → ℕ → List ℕ → List ℕ
@@ -56,6 +58,10 @@ effect_line entry = codes "= " ++ decimal entry.client ++ codes " " ++ decimal e
 
 abbrev pub effects_of : List Entry → List ℕ
 effects_of entries = flat_map effect_line entries
+
+-- the line of an entry that was made, where it is an effect
+abbrev pub effect_of : {X : Type 0} → SimulationV X → Made → List ℕ
+effect_of sim made = if stands_in sim made then effect_line made.entry else []
 
 -- what a client made of a message, behind its number and that of its call
 abbrev pub taken_text : Taken → List ℕ

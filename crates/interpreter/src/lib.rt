@@ -9,6 +9,7 @@
 //! plain words it is in `docs/FORMATS.md`, "Lines carried out".
 #![tactic(auto)]
 
+mod effects;
 mod events;
 mod interpreter;
 mod lines;
