@@ -66,7 +66,7 @@ flows_failed first mid last pending text flows front = record {
 pub record IsReading (before now : Streams) (line : List ℕ) : Type 0 where
   pub quiet : IsQuiet before now
   pub is_part : IsPart line
-  pub short : length line ≤ 2 ^ 20
+  pub short : length line ≤ 2 ^ 20 + 1
   pub consumed : Consumes before.unread now.unread line
 
 pub starts : (before : Streams) → IsReading before before []

@@ -1,15 +1,9 @@
 -- Scripts, line by line.
-use Rattle.std.proofs.Common.{◌≡◌, ◌∙◌, sym, ap, subst, refl, ℕ, ◌+◌, ◌≤◌, suc, List, [], ◌∷◌, ◌++◌, length, Bool, true, false, not, cond, arith, append_assoc, add-zero, get_or, drop}
+use Rattle.std.proofs.Common.{◌≡◌, ◌∙◌, sym, ap, refl, ℕ, ◌≤◌, List, [], ◌∷◌, ◌++◌, length, Bool, true, false, not, cond, arith, append_assoc}
 use Rattle.std.specs.Prelude.{◌==◌}
 use Rattle.std.specs.List.{AllByRecursion}
 use Rattle.std.proofs.lemmas.Bool.{and_parts}
-use Rattle.mds_base.specs.declared.call.Call.{Call}
-use Rattle.mds_base.specs.declared.call.Call.TheVariants.{Create, Remove, Lookup}
-use Rattle.mds_base.specs.declared.reply.Reply.{Reply}
-use Rattle.mds_base.specs.declared.entry.Entry.{Entry}
-use Rattle.mds_base.specs.PlainRules.{given_by}
 use Rattle.mds_cli.specs.Lines.{IsPart, lines_of, ended_lines, onto_first, onto_ended}
-use Rattle.mds_cli.specs.Grammar.{Spells, IsEntryOf, SpellsFront}
 
 -- lines, each with its line feed
 abbrev pub with_feeds : List (List ℕ) → List ℕ
@@ -92,24 +86,3 @@ long_line (byte ∷ next ∷ bytes) rest part some =
       is = ap (λ b. cond b ([] ∷ lines_of (next ∷ bytes ++ rest)) (onto_first byte (lines_of (next ∷ bytes ++ rest)))) (no_feed byte (next ∷ bytes) part) ∙ ap (onto_first byte) later.is;
       long = omega (arith, later.long);
     }
-
--- Lines that spell calls
-
-pub spells_more : (lines more : List (List ℕ)) (number : ℕ) (entries : List Entry) → SpellsFront lines number entries [] → SpellsFront (lines ++ more) number entries more
-spells_more lines more number [] spelled = ap (λ ls. ls ++ more) spelled
-spells_more [] more number (entry ∷ entries) spelled = absurd spelled
-spells_more (line ∷ lines) more number (entry ∷ entries) spelled = (spelled.0, spells_more lines more (number + 1) entries spelled.1)
-
-pub spells_next : (lines : List (List ℕ)) (number : ℕ) (entries : List Entry) (line : List ℕ) (rest : List (List ℕ)) (entry : Entry) → SpellsFront lines number entries (line ∷ rest) → IsEntryOf line (number + length entries) entry → SpellsFront lines number (entries ++ entry ∷ []) rest
-spells_next [] number [] line rest entry spelled is = absurd (omega (arith, ap length spelled))
-spells_next (first ∷ lines) number [] line rest entry spelled is =
-    (subst (λ l. IsEntryOf l number entry) (sym (ap (λ ls. get_or ls 0 []) spelled)) (subst (λ n. IsEntryOf line n entry) (add-zero number) is), ap (drop 1) spelled)
-spells_next [] number (e ∷ entries) line rest entry spelled is = spelled
-spells_next (first ∷ lines) number (e ∷ entries) line rest entry spelled is =
-    (spelled.0, spells_next lines (number + 1) entries line rest entry spelled.1 (subst (λ n. IsEntryOf line n entry) (let e : number + suc (length entries) ≡ number + 1 + length entries = omega arith in e) is))
-
-pub gives_none : (line : List ℕ) (call : Call) (reply : Reply) → Spells line call → given_by call reply ≡ []
-gives_none line (Create dir name) reply spells = refl
-gives_none line (Remove dir name) reply spells = refl
-gives_none line (Lookup dir name) reply spells = refl
-gives_none line call reply spells = absurd spells

@@ -27,7 +27,7 @@ module _ (chunk : List ℕ) (from to n : ℕ) (part after line : List ℕ) (le :
   left_is : drop (from + (length part + 1)) (take to chunk) ≡ after ++ drop n (drop from (take to chunk))
   left_is = sym (drop-drop (length part + 1) from (take to chunk)) ∙ ap (drop (length part + 1)) whole ∙ behind part (after ++ drop n (drop from (take to chunk)))
 
-  pub ends_line : (held longer : List ℕ) → drop from (take to chunk) ≡ held → IsPart part → n + length line ≤ 2 ^ 20 + 1 → longer ≡ line ++ part → EndsLine held (drop (from + (length part + 1)) (take to chunk)) line longer
+  pub ends_line : (held longer : List ℕ) → drop from (take to chunk) ≡ held → IsPart part → n + length line ≤ 2 ^ 20 + 2 → longer ≡ line ++ part → EndsLine held (drop (from + (length part + 1)) (take to chunk)) line longer
   ends_line held longer is is_part room grows = record {
     part = part;
     is_part = is_part;
@@ -41,7 +41,7 @@ module _ (chunk : List ℕ) (from to n : ℕ) (held line : List ℕ) (le : from 
   seen : take n (take (to - from) (drop from chunk)) ≡ take n held
   seen = ap (take n) (held_is chunk from to le ∙ is)
 
-  pub passes_limit : 2 ^ 20 < length line + n → n ≤ to - from → PassesLimit held held line
+  pub passes_limit : 2 ^ 20 + 1 < length line + n → n ≤ to - from → PassesLimit held held line
   passes_limit long count = record {
     same = refl;
     part = take n held;
@@ -51,7 +51,7 @@ module _ (chunk : List ℕ) (from to n : ℕ) (held line : List ℕ) (le : from 
     long = omega (arith, long, length-take n held, ap length is, length-drop from (take to chunk), length-take to chunk);
   }
 
-  pub goes_on : (longer : List ℕ) → to - from ≤ n → length line + (to - from) ≤ 2 ^ 20 → longer ≡ line ++ take n (take (to - from) (drop from chunk)) → GoesOn held (drop to (take to chunk)) line longer
+  pub goes_on : (longer : List ℕ) → to - from ≤ n → length line + (to - from) ≤ 2 ^ 20 + 1 → longer ≡ line ++ take n (take (to - from) (drop from chunk)) → GoesOn held (drop to (take to chunk)) line longer
   goes_on longer count room grows =
       let all : take n held ≡ held = take_all n held (omega (arith, count, ap length is, length-drop from (take to chunk), length-take to chunk)) in
       record {

@@ -1,24 +1,30 @@
--- One turn of a run: a line is read, and its call carried out.
-use Rattle.std.proofs.Common.{◌≡◌, ◌∙◌, sym, ap, subst, refl, ℕ, ◌+◌, ◌≤◌, List, [], ◌∷◌, ◌++◌, length, take, arith, Option, Some, None, Result, Ok, Err, IfErr, append_assoc, length-append}
-use Rattle.std.specs.Prelude.{IsErrAnd, string_bytes}
-use Rattle.std.specs.Io.KnownBytes.{Consumes, Appends, Keeps}
+-- One turn of a run: a line is read, and carried out.
+use Rattle.std.proofs.Common.{◌≡◌, ◌∙◌, sym, ap, subst, refl, ℕ, ◌+◌, ◌≤◌, List, [], ◌∷◌, ◌++◌, length, take, arith, Option, Some, None, Result, Ok, Err, IfErr, append_assoc, length-append, inl, inr}
+use Rattle.std.specs.Prelude.{IsErrAnd, ◌⊎◌}
+use Rattle.std.specs.Io.KnownBytes.{Consumes, Appends, Keeps, prepend_known}
 use Rattle.std.proofs.lemmas.List.{append-nil, take-append-le, drop-append-le}
-use Rattle.mds_base.specs.PlainRules.{PlainStep}
 use Rattle.std.proofs.Math.Seq.{take-append-add, take-length}
+use Rattle.mds_base.specs.declared.setup.Setup.{Setup}
+use Rattle.mds_base.specs.declared.setup.Which.{Which}
+use Rattle.mds_base.specs.declared.setup.Which.TheVariants.{Events, Rows, Lines, Moment, Directories}
+use Rattle.mds_out.specs.Disk.{Image, Contents}
 use Rattle.mds_out.specs.Stream.{TakesFront}
 use Rattle.mds_out.specs.Known.{OnTold}
+use Rattle.simulation.specs.Runs.{RunV}
+use Rattle.simulation.specs.Shows.{SimulationV, Shows}
+use Rattle.interpreter.specs.EventText.{events_text}
+use Rattle.interpreter.specs.Steps.{PutsFront}
+use Rattle.mds_cli.specs.Follows.{IsAllowed, IsBad}
 use Rattle.mds_cli.specs.Lines.{IsPart, lines_of}
-use Rattle.mds_cli.specs.Grammar.{IsSpelled}
-use Rattle.mds_cli.specs.Text.{answer_line, effect_line}
-use Rattle.mds_cli.specs.Streams.{Streams, Flows, IsQuiet, Ends, BeginsLong, StopsLong, StopsLine}
-use Rattle.mds_cli.specs.Turn.{CarriesCall, StopsCall, CarriesLine, CarriesLast, StopsBad, StopsTurn, BeginsUnspelled, BeginsSpelled, status_of}
+use Rattle.mds_cli.specs.Run.{BeginsBad, BeginsAllowed, BeginsWith}
+use Rattle.mds_cli.specs.Streams.{Streams, Flows, IsQuiet, Ends, BeginsLong, StopsLine}
+use Rattle.mds_cli.specs.Turn.{CarriesOut, CarriesRun, CarriesLine, CarriesLast, StopsCall, MeetsLimitOut, MeetsLimitTurn, StopsOut, StopsLimit, StopsTurn, FlowsFront, HasRead, status_of}
 use Rattle.mds_cli.specs.declared.line.Stop.{Stop}
 use Rattle.mds_cli.specs.declared.line.Stop.TheVariants as stops
-use Rattle.mds_cli.specs.declared.session.Session.{Session}
 use Rattle.mds_cli.specs.declared.status.Status.{Status}
-use Rattle.mds_cli.specs.declared.status.Status.TheVariants.{BadScript, Limit, OutOfMemory}
+use Rattle.mds_cli.specs.declared.status.Status.TheVariants.{BadScript, BadDisk, Limit, OutOfMemory}
+use Rattle.mds_cli.proofs.Following.{long_bad}
 use Rattle.mds_cli.proofs.Scripts.{lines_front, last_line, long_line}
-use Rattle.mds_cli.proofs.Words.{spelled_short}
 
 -- what a result that is this error says of its error
 pub err_at : {T E : Type 0} (r : Result T E) (e : E) (P : E → Type 0) → IsErrAnd r (λ x. x ≡ e) → P e → IfErr r P
@@ -41,78 +47,155 @@ quiet_same before now later quiet reads writes taken pending = record {
   flows = subst (λ p. Flows before.taken later.taken p before.pending) (sym pending) (subst (λ t. Flows before.taken t now.pending before.pending) (sym taken) quiet.flows);
 }
 
--- the bytes begin with this line
-abbrev BeginsWith : List ℕ → List ℕ → Type 0
-BeginsWith line bytes = (rest : List (List ℕ)) × (lines_of bytes ≡ line ∷ rest)
+-- ---- the line that the unread bytes begin with
 
-pub begins_ended : (unread left : Option (List ℕ)) (line : List ℕ) → IsPart line → Consumes unread left (line ++ 10 ∷ []) → OnTold unread (BeginsWith line)
+pub begins_ended : (unread left : Option (List ℕ)) (line : List ℕ) → IsPart line → Consumes unread left (line ++ 10 ∷ []) → OnTold unread (BeginsWith [] (line ∷ []))
 begins_ended None left line part consumed = tt
 begins_ended (Some all) None line part consumed = absurd consumed
-begins_ended (Some all) (Some left) line part consumed = (lines_of left, ap lines_of consumed ∙ lines_front (line ∷ []) left (part, tt))
+begins_ended (Some all) (Some left) line part consumed =
+    (lines_of left, ap lines_of consumed ∙ lines_front (line ∷ []) left (part, tt))
 
-pub begins_last : (unread left : Option (List ℕ)) (line : List ℕ) → IsPart line → 1 ≤ length line → Consumes unread left line → Ends unread left → OnTold unread (BeginsWith line)
+pub begins_last : (unread left : Option (List ℕ)) (line : List ℕ) → IsPart line → 1 ≤ length line → Consumes unread left line → Ends unread left → OnTold unread (BeginsWith [] (line ∷ []))
 begins_last None left line part some consumed ends = tt
 begins_last (Some all) None line part some consumed ends = absurd consumed
 begins_last (Some all) (Some left) line part some consumed ends = ([], ap lines_of (consumed ∙ ap (λ l. line ++ l) ends ∙ append-nil line) ∙ last_line line part some)
 
-unspelled : (unread : Option (List ℕ)) (line : List ℕ) → OnTold unread (BeginsWith line) → (IsSpelled line → ⊥) → OnTold unread BeginsUnspelled
-unspelled None line begins bad = tt
-unspelled (Some all) line begins bad = record { line = line; rest = begins.0; is = begins.1; is_bad = bad }
+pub begins_any : (unread : Option (List ℕ)) → OnTold unread (BeginsWith [] [])
+begins_any None = tt
+begins_any (Some all) = (lines_of all, refl)
 
-spelled : (unread : Option (List ℕ)) (line : List ℕ) → OnTold unread (BeginsWith line) → IsSpelled line → OnTold unread BeginsSpelled
-spelled None line begins is = tt
-spelled (Some all) line begins is = record { line = line; rest = begins.0; is = begins.1; is_spelled = is }
+begins_next : (unread : Option (List ℕ)) (line : List ℕ) (next : List (List ℕ)) → OnTold unread (BeginsWith [] (line ∷ [])) → (next ≡ []) ⊎ (next ≡ line ∷ []) → OnTold unread (BeginsWith [] next)
+begins_next unread line next begins (inl none) = subst (λ n. OnTold unread (BeginsWith [] n)) (sym none) (begins_any unread)
+begins_next unread line next begins (inr one) = subst (λ n. OnTold unread (BeginsWith [] n)) (sym one) begins
 
-pub stops_call : (status : Status) (line : List ℕ) (number : ℕ) (before now : Streams) → StopsCall status line number → IsQuiet before now → OnTold before.unread (BeginsWith line) → StopsTurn status before now number
-stops_call (BadScript place) line number before now stops quiet begins = record { place = stops.0; quiet = quiet; begins = unspelled before.unread line begins stops.1 }
-stops_call (Limit which) line number before now stops quiet begins = record { lines = stops.0; past = stops.1; quiet = quiet; begins = spelled before.unread line begins stops.2 }
-stops_call OutOfMemory line number before now stops quiet begins = quiet
-stops_call status line number before now stops quiet begins = absurd stops
+begins_bad : (setup : Setup) (run : RunV) (unread : Option (List ℕ)) (line : List ℕ) → OnTold unread (BeginsWith [] (line ∷ [])) → IsBad setup run line → OnTold unread (BeginsBad setup run [])
+begins_bad setup run None line begins bad = tt
+begins_bad setup run (Some all) line begins bad = record { bad = line; rest = begins.0; is = begins.1; is_bad = bad }
 
--- a line that is too long spells nothing
-long_unspelled : (unread : Option (List ℕ)) → OnTold unread BeginsLong → OnTold unread BeginsUnspelled
-long_unspelled None begins = tt
-long_unspelled (Some all) begins =
+begins_allowed : (setup : Setup) (run : RunV) (unread : Option (List ℕ)) (line : List ℕ) → OnTold unread (BeginsWith [] (line ∷ [])) → IsAllowed setup run line → OnTold unread (BeginsAllowed setup run [])
+begins_allowed setup run None line begins allowed = tt
+begins_allowed setup run (Some all) line begins allowed = record { next = line; rest = begins.0; is = begins.1; allowed = allowed }
+
+-- one that is too long is bad
+begins_long : (setup : Setup) (run : RunV) (unread : Option (List ℕ)) → OnTold unread BeginsLong → OnTold unread (BeginsBad setup run [])
+begins_long setup run None begins = tt
+begins_long setup run (Some all) begins =
     let long = long_line begins.part begins.rest begins.is_part (omega (arith, begins.long)) in
     record {
-      line = long.line;
+      bad = long.line;
       rest = long.rest;
       is = ap lines_of begins.splits ∙ long.is;
-      is_bad = λ spelled. absurd (omega (arith, begins.long, long.long, spelled_short long.line spelled));
+      is_bad = long_bad setup run long.line (omega (arith, begins.long, long.long));
     }
 
-stops_long : (number : ℕ) (before now : Streams) → StopsLong before now → StopsBad number number before now
-stops_long number before now stops = record { place = refl; quiet = stops.quiet; begins = long_unspelled before.unread stops.begins }
+-- ---- what was read, where the held bytes stay
 
-pub stops_line : (stop : Stop) (number : ℕ) (before now : Streams) → StopsLine stop before now → StopsTurn (status_of stop number) before now number
-stops_line stops.TooLong number before now line = stops_long number before now line
-stops_line stops.ReadFault number before now line = line
-stops_line stops.WriteFault number before now line = line
-stops_line stops.OutOfMemory number before now line = line
+after_reader : (before left : Option (List ℕ)) (held held' text : List ℕ) → held' ≡ held → Consumes before (prepend_known held left) text → Consumes before (prepend_known held' left) text
+after_reader before left held held' text same consumed = subst (λ h. Consumes before (prepend_known h left) text) (sym same) consumed
 
--- a line that was read, and whose call was then carried out
-module _ (before mid now : Streams) (number : ℕ) (old read new : Session) (line : List ℕ) (carries : CarriesCall line number read new) (same_directory : read.directory ≡ old.directory) (same_effects : string_bytes read.effects ≡ string_bytes old.effects) (taken : now.taken ≡ mid.taken) (reads : now.reads ≡ mid.reads) (writes : now.writes ≡ mid.writes) (waiting : read.pending.items ≡ mid.pending) (pending : now.pending ≡ new.pending.items) where
-  module _ (behind : List ℕ) (quiet : IsQuiet before mid) (is_part : IsPart line) (consumed : Consumes before.unread now.unread (line ++ behind)) where
-    pub carries_line : CarriesLine before now number old new behind
-    carries_line = record {
+pub ended_reader : (before left : Option (List ℕ)) (held held' line : List ℕ) → held' ≡ held → Consumes before (prepend_known held left) (line ++ 10 ∷ []) → Consumes before (prepend_known held' left) (line ++ 10 ∷ [])
+ended_reader before left held held' line same consumed = after_reader before left held held' (line ++ 10 ∷ []) same consumed
+
+pub last_reader : (before left : Option (List ℕ)) (held held' line : List ℕ) → held' ≡ held → Consumes before (prepend_known held left) line → Consumes before (prepend_known held' left) (line ++ [])
+last_reader before left held held' line same consumed = after_reader before left held held' (line ++ []) same (subst (λ l. Consumes before (prepend_known held left) l) (sym (append-nil line)) consumed)
+
+pub ends_reader : (before left : Option (List ℕ)) (held held' : List ℕ) → held' ≡ held → Ends before (prepend_known held left) → Ends before (prepend_known held' left)
+ends_reader before left held held' same ends = subst (λ h. Ends before (prepend_known h left)) (sym same) ends
+
+pub has_ended : (before now : Option (List ℕ)) (line : List ℕ) → Consumes before now (line ++ 10 ∷ []) → HasRead before now
+has_ended before now line consumed = record { read = line ++ 10 ∷ []; some = omega (arith, length-append line (10 ∷ [])); consumed = consumed }
+
+pub has_last : (before now : Option (List ℕ)) (line : List ℕ) → 1 ≤ length line → Consumes before now (line ++ []) → HasRead before now
+has_last before now line some consumed = record { read = line ++ []; some = omega (arith, some, length-append line []); consumed = consumed }
+
+-- ---- a line that was not found
+
+module _ {X : Type 0} (seen : X → Contents) (images : X → Image → Type 0) where
+  pub stops_line : (stop : Stop) (number : ℕ) (before now : Streams) (sim : SimulationV X) → StopsLine stop before now → StopsTurn seen images (status_of stop number) before now number sim sim
+  stops_line stops.TooLong number before now sim line = (refl, record { quiet = line.quiet; same = refl; runs = λ run shows. begins_long sim.setup run before.unread line.begins })
+  stops_line stops.ReadFault number before now sim line = (line, refl)
+  stops_line stops.WriteFault number before now sim line = (line, refl)
+  stops_line stops.OutOfMemory number before now sim line = record {
+    reads = line.reads;
+    writes = line.writes;
+    runs = λ run shows. record {
+      next = [];
+      begins = begins_any before.unread;
+      events = [];
+      begun = refl;
+      may = refl;
+      near = inl shows.servers;
+      flows = record { front = []; rest = []; whole = refl; flows = subst (λ t. Flows before.taken now.taken now.pending t) (sym (append-nil before.pending)) line.flows };
+    };
+  }
+
+-- ---- a line that was read, and then carried out
+
+module _ {X : Type 0} (seen : X → Contents) (images : X → Image → Type 0) (before mid now : Streams) (quiet : IsQuiet before mid) (taken : now.taken ≡ mid.taken) (reads : now.reads ≡ mid.reads) (writes : now.writes ≡ mid.writes) (was after : List ℕ) (waiting : was ≡ mid.pending) (pending : now.pending ≡ after) (number : ℕ) (old new : SimulationV X) (line : List ℕ) where
+  quiet_now : after ≡ was → IsQuiet before now
+  quiet_now same = quiet_same before mid now quiet reads writes taken (pending ∙ same ∙ waiting)
+
+  flows_now : (text : List ℕ) → after ≡ was ++ text → Flows before.taken now.taken now.pending (before.pending ++ text)
+  flows_now text is =
+      subst (λ t. Flows before.taken t now.pending (before.pending ++ text)) (sym taken)
+      (subst (λ p. Flows before.taken mid.taken p (before.pending ++ text)) (sym (pending ∙ is ∙ ap (λ p. p ++ text) waiting))
+      (flows_more before.taken mid.taken mid.pending before.pending text quiet.flows))
+
+  front_now : (text : List ℕ) → PutsFront was after text → FlowsFront before.taken now.taken now.pending before.pending text
+  front_now text puts = record { front = puts.front; rest = puts.rest; whole = puts.whole; flows = flows_now puts.front puts.pending }
+
+  module _ (carries : CarriesOut seen images old new was after line number) where
+    pub carries_run : (run : RunV) → Shows seen images old run → CarriesRun seen images old.setup before now new line run
+    carries_run run shows =
+        let on = carries.runs run shows in
+        record { events = on.events; carried = on.carried; shows = on.shows; flows = flows_now (events_text run on.events) on.text }
+
+    pub carries_line : (behind : List ℕ) → IsPart line → Consumes before.unread now.unread (line ++ behind) → CarriesLine seen images before now number old new behind
+    carries_line behind is_part consumed = record {
       line = line;
-      entry = carries.entry;
       is_part = is_part;
-      is_entry = carries.is_entry;
       within = carries.within;
-      step = subst (λ d. PlainStep d carries.entry.call carries.entry.reply new.directory) same_directory carries.step;
       consumed = consumed;
-      flows = subst (λ t. Flows before.taken t now.pending (before.pending ++ answer_line carries.entry)) (sym taken)
-          (subst (λ p. Flows before.taken mid.taken p (before.pending ++ answer_line carries.entry)) (sym (pending ∙ carries.pending ∙ ap (λ p. p ++ answer_line carries.entry) waiting))
-          (flows_more before.taken mid.taken mid.pending before.pending (answer_line carries.entry) quiet.flows));
-      effects = carries.effects ∙ ap (λ e. e ++ effect_line carries.entry) same_effects;
       reads = reads ∙ quiet.reads;
       writes = writes ∙ quiet.writes;
+      runs = carries_run;
     }
 
-  pub carries_last : (quiet : IsQuiet before mid) (is_part : IsPart line) (consumed : Consumes before.unread now.unread (line ++ [])) → 1 ≤ length line → Ends before.unread now.unread → CarriesLast before now number old new
-  unfolding carries_line
-  carries_last quiet is_part consumed some ends = record { carries = carries_line [] quiet is_part consumed; some = some; ends = ends }
+    pub carries_last : IsPart line → Consumes before.unread now.unread (line ++ []) → 1 ≤ length line → Ends before.unread now.unread → CarriesLast seen images before now number old new
+    unfolding carries_line
+    carries_last is_part consumed some ends = record { carries = carries_line [] is_part consumed; some = some; ends = ends }
+
+  module _ (begins : OnTold before.unread (BeginsWith [] (line ∷ []))) (has : HasRead before.unread now.unread) where
+    stops_out : (which : Which) → StopsOut seen images which old new was after line number → StopsLimit seen images which before now number old new
+    stops_out which stops = record {
+      within = stops.within;
+      reads = reads ∙ quiet.reads;
+      writes = writes ∙ quiet.writes;
+      runs = λ run shows.
+          let on = stops.runs run shows in
+          record { next = line; begins = begins; events = on.events; stops = on.stops; shows = on.shows; flows = flows_now (events_text run on.events) on.text };
+    }
+
+    limit_call : (which : Which) → MeetsLimitOut seen images which old new was after line number → MeetsLimitTurn seen images which before now number old new
+    limit_call Lines (inl stops) = inl (stops.0, record { quiet = quiet_now stops.1.pending; same = stops.1.same; runs = λ run shows. begins_allowed old.setup run before.unread line begins (stops.1.runs run shows) })
+    limit_call Lines (inr stops) = inr (stops_out Lines stops)
+    limit_call Events stops = stops_out Events stops
+    limit_call Rows stops = stops_out Rows stops
+    limit_call Moment stops = stops_out Moment stops
+    limit_call Directories stops = stops_out Directories stops
+
+    pub stops_call : (status : Status) → StopsCall seen images status old new was after line number → StopsTurn seen images status before now number old new
+    stops_call (BadScript place) stops = (stops.0, record { quiet = quiet_now stops.1.pending; same = stops.1.same; runs = λ run shows. begins_bad old.setup run before.unread line begins (stops.1.runs run shows) })
+    stops_call (Limit which) stops = limit_call which stops
+    stops_call OutOfMemory stops = record {
+      reads = reads ∙ quiet.reads;
+      writes = writes ∙ quiet.writes;
+      runs = λ run shows.
+          let on = stops run shows in
+          record { next = on.next; begins = begins_next before.unread line on.next begins on.is; events = on.events; begun = on.begun; may = on.may; near = on.near; flows = front_now (events_text run on.events) on.text };
+    }
+    stops_call (BadDisk server file place damage) stops = record { reads = reads ∙ quiet.reads; writes = writes ∙ quiet.writes; read = has; never = stops }
+    stops_call status stops = absurd stops
 
 -- Texts that are written one behind the other
 

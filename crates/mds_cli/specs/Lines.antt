@@ -29,3 +29,9 @@ Lacks stop bytes = IsTrue (list_all (λ byte. not (byte == stop)) bytes)
 -- bytes of one line, without its end
 abbrev pub IsPart : List ℕ → Type 0
 IsPart = Lacks 10
+
+-- bytes without the carriage return at their end
+abbrev pub without_return : List ℕ → List ℕ
+without_return [] = []
+without_return (byte ∷ []) = if byte == 13 then [] else byte ∷ []
+without_return (byte ∷ next ∷ bytes) = byte ∷ without_return (next ∷ bytes)

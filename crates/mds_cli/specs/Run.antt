@@ -1,155 +1,147 @@
--- What a run did: which lines it carried out, and the history that its entries are. The text that they made was taken,
--- or is on its way, as `Text` says of the entries.
-use Rattle.std.specs.Prelude.{◌≡◌, ℕ, ◌+◌, ◌≤◌, ◌^◌, List, [], ◌∷◌, Option, length, codes}
-use Rattle.std.specs.List.{AllByRecursion}
+-- What a run of the program did: from where the past of its disks leads on, its events follow the script's lines, and the
+-- world's theorem holds of it. `Text` says of its events which of their text was taken, or is on its way.
+use Rattle.std.specs.Prelude.{◌≡◌, ℕ, ◌+◌, ◌<◌, ◌≤◌, ◌^◌, Bool, true, List, [], ◌∷◌, ◌++◌, Option, length, codes}
 use Rattle.std.specs.Io.KnownBytes.{Appends, Consumes}
-use Rattle.std.specs.FinMap as map
-use Rattle.mds_base.specs.declared.entry.Entry.{Entry}
-use Rattle.mds_base.specs.History.{IsLegal}
-use Rattle.mds_out.specs.Known.{OnKnown, OnTold}
-use Rattle.mds_out.specs.Stream.{TakesFront}
-use Rattle.mds_out.specs.Fault.{Rose}
+use Rattle.mds_base.specs.declared.setup.Setup.{Setup}
 use Rattle.mds_base.specs.declared.setup.Which.{Which}
 use Rattle.mds_base.specs.declared.setup.Which.TheVariants.{Lines}
-use Rattle.mds_cli.specs.Text.{answers_of, effects_of, text_of}
-use Rattle.mds_cli.specs.Streams.{Streams, Flows}
-use Rattle.mds_cli.specs.declared.status.Status.{Status}
-use Rattle.mds_cli.specs.declared.status.Status.TheVariants.{Done, Usage, BadScript, ReadFault, WriteFault, Limit, OutOfMemory}
+use Rattle.mds_base.specs.Entries.{Entries}
+use Rattle.mds_out.specs.Disk.{Image, Contents}
+use Rattle.mds_out.specs.Known.{OnKnown, OnTold}
+use Rattle.mds_out.specs.Stream.{TakesFront}
+use Rattle.simulation.specs.Openings.{with_choice}
+use Rattle.simulation.specs.Runs.{RunV, start_run}
+use Rattle.simulation.specs.Starts.{AreDisks, AreReached}
+use Rattle.world.specs.declared.event.Event.{Event}
+use Rattle.world.specs.declared.state.ServerState.{ServerState}
+use Rattle.world.specs.Events.{all_enabled}
+use Rattle.world.specs.Histories.{run}
+use Rattle.world.specs.Law.{PastRun, IsReached, HoldsOfRun, start_trace}
+use Rattle.world.specs.Worlds.{fresh_world}
+use Rattle.interpreter.specs.EventText.{events_text, effects_text}
+use Rattle.interpreter.specs.Story.{grown_by}
+use Rattle.mds_cli.specs.Follows.{Follows, IsAllowed, IsBad, BeginsNext, StopsAt}
 use Rattle.mds_cli.specs.Lines.{lines_of, ended_lines}
-use Rattle.mds_cli.specs.Grammar.{SpellsFront, IsSpelled}
 
--- The words are the one word `solo`.
-abbrev pub IsSolo : List (List ℕ) → Type 0
-IsSolo words = words ≡ codes "solo" ∷ []
+-- The run of some events from where the past leads, with a choice of the records in doubt that were kept at its end. The
+-- handed-back disks are those of the run's servers: each image of a disk stands for its server, and where that is in
+-- doubt for it with all its records in doubt. So another run may go on from there.
+pub record RunsOver {D : Type 0} (seen : D → Contents) (images : D → Image → Type 0) (setup : Setup) (past : List PastRun) (disks : List D) (P : RunV → List Event → Type 0) : Type 0 where
+  pub keep : ℕ → Bool
+  pub servers : List ServerState
+  pub entries : Entries
+  pub reached : IsReached setup (with_choice keep past) servers entries
+  pub events : List Event
+  pub are : P (start_run setup servers entries) events
+  pub may : all_enabled (fresh_world setup servers) events ≡ true
+  pub holds : HoldsOfRun (run (start_trace setup servers entries) events)
+  pub left : AreDisks seen images setup disks (run (start_trace setup servers entries) events).world.servers
+  pub next : AreReached seen images setup disks (record { events = events; keep = keep } ∷ with_choice keep past)
 
--- The bytes' first lines spell the entries' calls, and the next one spells none.
-pub record BeginsBad (bytes : List ℕ) (entries : List Entry) : Type 0 where
+-- the whole text of a run: the lines of its events, those of its effects, and `end`
+abbrev pub run_text : RunV → List Event → List ℕ
+run_text run events = events_text run events ++ (effects_text (grown_by run events).trace.past ++ codes "end\n")
+
+-- ---- which lines of the script a run has carried out
+
+-- all of them
+pub record WholeScript (setup : Setup) (input left : Option (List ℕ)) (Text : RunV → List Event → Type 0) (run : RunV) (events : List Event) : Type 0 where
+  pub lines : List (List ℕ)
+  pub follows : Follows setup run lines events
+  pub count : length lines ≤ 2 ^ 22
+  pub all : OnKnown input left (λ bytes rest. (lines_of bytes ≡ lines) × (rest ≡ []))
+  pub text : Text run events
+
+-- these lines, and then comes one that is bad
+pub record BeginsBad (setup : Setup) (run : RunV) (lines : List (List ℕ)) (bytes : List ℕ) : Type 0 where
   pub bad : List ℕ
   pub rest : List (List ℕ)
-  pub spelled : SpellsFront (lines_of bytes) 1 entries (bad ∷ rest)
-  pub is_bad : IsSpelled bad → ⊥
+  pub is : lines_of bytes ≡ lines ++ bad ∷ rest
+  pub is_bad : IsBad setup run bad
 
--- The bytes' first lines spell the entries' calls, and the next one spells a call too.
-pub record GoesOnSpelled (bytes : List ℕ) (entries : List Entry) : Type 0 where
+-- those before the one with this number, which is outside the grammar or not allowed there
+pub record FirstBad (setup : Setup) (line : ℕ) (input : Option (List ℕ)) (Text : RunV → List Event → Type 0) (run : RunV) (events : List Event) : Type 0 where
+  pub lines : List (List ℕ)
+  pub follows : Follows setup run lines events
+  pub place : line ≡ length lines + 1
+  pub count : length lines ≤ 2 ^ 22
+  pub begins : OnTold input (BeginsBad setup (grown_by run events) lines)
+  pub text : Text run events
+
+-- these lines, and then comes one that is allowed
+pub record BeginsAllowed (setup : Setup) (run : RunV) (lines : List (List ℕ)) (bytes : List ℕ) : Type 0 where
   pub next : List ℕ
   pub rest : List (List ℕ)
-  pub spelled : SpellsFront (lines_of bytes) 1 entries (next ∷ rest)
-  pub is_spelled : IsSpelled next
+  pub is : lines_of bytes ≡ lines ++ next ∷ rest
+  pub allowed : IsAllowed setup run next
 
--- The bytes' first lines spell the entries' calls.
-abbrev pub Begins : List ℕ → List Entry → Type 0
-Begins bytes entries = (rest : List (List ℕ)) × SpellsFront (lines_of bytes) 1 entries rest
+-- as many as a script may have, and the next one is allowed too
+pub record TooManyLines (setup : Setup) (input : Option (List ℕ)) (Text : RunV → List Event → Type 0) (run : RunV) (events : List Event) : Type 0 where
+  pub lines : List (List ℕ)
+  pub follows : Follows setup run lines events
+  pub count : length lines ≡ 2 ^ 22
+  pub begins : OnTold input (BeginsAllowed setup (grown_by run events) lines)
+  pub text : Text run events
 
--- The whole input was read, and each of its lines, no more than a script may have, carried out.
-pub record WholeRun (input left : Option (List ℕ)) (Text : List Entry → Type 0) : Type 0 where
-  pub entries : List Entry
-  pub count : length entries ≤ 2 ^ 22
-  pub spelled : OnKnown input left (λ bytes rest. SpellsFront (lines_of bytes) 1 entries [] × (rest ≡ []))
-  pub legal : IsLegal map.empty entries
-  pub text : Text entries
+-- the first lines of the bytes are these, and then those
+abbrev pub BeginsWith : List (List ℕ) → List (List ℕ) → List ℕ → Type 0
+BeginsWith lines next bytes = (rest : List (List ℕ)) × (lines_of bytes ≡ lines ++ (next ++ rest))
 
--- The lines before the named one were carried out, and it is the first that spells no call.
-pub record FirstBad (line : ℕ) (input : Option (List ℕ)) (Text : List Entry → Type 0) : Type 0 where
-  pub entries : List Entry
-  pub place : line ≡ length entries + 1
-  pub count : length entries ≤ 2 ^ 22
-  pub spelled : OnTold input (λ bytes. BeginsBad bytes entries)
-  pub legal : IsLegal map.empty entries
-  pub text : Text entries
+-- some of them, and the next one up to an event that would pass the limit
+pub record StopsInLine (setup : Setup) (which : Which) (input : Option (List ℕ)) (Text : RunV → List Event → Type 0) (run : RunV) (events : List Event) : Type 0 where
+  pub lines : List (List ℕ)
+  pub before : List Event
+  pub part : List Event
+  pub are : events ≡ before ++ part
+  pub follows : Follows setup run lines before
+  pub count : length lines < 2 ^ 22
+  pub next : List ℕ
+  pub stops : StopsAt which setup (grown_by run before) next part
+  pub begins : OnTold input (BeginsWith lines (next ∷ []))
+  pub text : Text run events
 
--- As many lines were carried out as a script may have, and the next one spells a call too.
-pub record TooManyLines (input : Option (List ℕ)) (Text : List Entry → Type 0) : Type 0 where
-  pub entries : List Entry
-  pub count : length entries ≡ 2 ^ 22
-  pub spelled : OnTold input (λ bytes. GoesOnSpelled bytes entries)
-  pub legal : IsLegal map.empty entries
-  pub text : Text entries
+-- why the limit was met: there are too many lines, or an event would be one too many, too late, or without a number
+abbrev pub MeetsLimit : Setup → Which → Option (List ℕ) → (RunV → List Event → Type 0) → RunV → List Event → Type 0
+MeetsLimit setup Lines input Text run events = TooManyLines setup input Text run events
+MeetsLimit setup which input Text run events = StopsInLine setup which input Text run events
 
--- The bytes that were read hold the line feeds of just the lines that were carried out.
-pub record ReadsFront (input left : Option (List ℕ)) (Text : List Entry → Type 0) : Type 0 where
+-- those whose line feed was read
+pub record ReadsFront (setup : Setup) (input left : Option (List ℕ)) (Text : RunV → List Event → Type 0) (run : RunV) (events : List Event) : Type 0 where
   pub read : List ℕ
   pub consumed : Consumes input left read
-  pub entries : List Entry
-  pub spelled : SpellsFront (ended_lines read) 1 entries []
-  pub legal : IsLegal map.empty entries
-  pub text : Text entries
+  pub follows : Follows setup run (ended_lines read) events
+  pub text : Text run events
 
--- Some of the first lines were carried out.
-pub record SomeLines (input : Option (List ℕ)) (Text : List Entry → Type 0) : Type 0 where
-  pub entries : List Entry
-  pub spelled : OnTold input (λ bytes. Begins bytes entries)
-  pub legal : IsLegal map.empty entries
-  pub text : Text entries
+-- some of them, and perhaps a part of the next one
+pub record SomeLines (setup : Setup) (input : Option (List ℕ)) (Text : RunV → List Event → Type 0) (run : RunV) (events : List Event) : Type 0 where
+  pub lines : List (List ℕ)
+  pub before : List Event
+  pub part : List Event
+  pub are : events ≡ before ++ part
+  pub follows : Follows setup run lines before
+  pub next : List (List ℕ)
+  pub begun : BeginsNext setup (grown_by run before) next part
+  pub begins : OnTold input (BeginsWith lines next)
+  pub text : Text run events
 
--- The text of the answers was taken, or still waits.
-abbrev pub OnItsWay : Streams → Streams → List Entry → Type 0
-OnItsWay first now entries = Flows first.taken now.taken now.pending (answers_of entries)
+-- the same, and then perhaps one event more, which was not printed: a disk that had no memory stopped its server
+pub record StopsWithoutMemory (setup : Setup) (input : Option (List ℕ)) (Text : RunV → List Event → Type 0) (run : RunV) (events : List Event) : Type 0 where
+  pub printed : List Event
+  pub last : List Event
+  pub are : events ≡ printed ++ last
+  pub few : length last ≤ 1
+  pub some : SomeLines setup input Text run printed
 
--- It was taken whole; a front of it was taken.
-abbrev pub Took : Streams → Streams → List Entry → Type 0
-Took first now entries = Appends first.taken now.taken (answers_of entries)
+-- ---- which text was taken
 
-abbrev pub TookFront : Streams → Streams → List Entry → Type 0
-TookFront first now entries = TakesFront first.taken now.taken (answers_of entries)
+abbrev pub TookText : Option (List ℕ) → Option (List ℕ) → RunV → List Event → Type 0
+TookText before now run events = Appends before now (events_text run events)
 
--- Lines were carried out to the end, and no stream failed.
-pub record CarriesAll (first now : Streams) (effects : List ℕ) : Type 0 where
-  pub run : WholeRun first.unread now.unread (λ entries. OnItsWay first now entries × (effects ≡ effects_of entries))
-  pub reads : now.reads ≡ first.reads
-  pub writes : now.writes ≡ first.writes
+abbrev pub TookWhole : Option (List ℕ) → Option (List ℕ) → RunV → List Event → Type 0
+TookWhole before now run events = Appends before now (run_text run events)
 
--- A run stopped for this reason, and no stream failed.
-pub record StopsQuietly (Reason : Type 0) (first now : Streams) : Type 0 where
-  pub reason : Reason
-  pub reads : now.reads ≡ first.reads
-  pub writes : now.writes ≡ first.writes
+abbrev pub TookFrontOfText : Option (List ℕ) → Option (List ℕ) → RunV → List Event → Type 0
+TookFrontOfText before now run events = TakesFront before now (events_text run events)
 
-pub record StopsByRead (Reason : Type 0) (first now : Streams) : Type 0 where
-  pub reason : Reason
-  pub none : now.held ≡ []
-  pub reads : Rose first.reads now.reads
-  pub writes : now.writes ≡ first.writes
-
-pub record StopsByWrite (Reason : Type 0) (first now : Streams) : Type 0 where
-  pub reason : Reason
-  pub writes : Rose first.writes now.writes
-
-pub record StopsAtLimit (which : Which) (Text : List Entry → Type 0) (first now : Streams) : Type 0 where
-  pub lines : which ≡ Lines
-  pub stops : StopsQuietly (TooManyLines first.unread Text) first now
-
--- Why lines were not carried out to the end, with their answers on their way.
-abbrev pub StopsCarrying : Status → Streams → Streams → Type 0
-StopsCarrying (BadScript line) first now = StopsQuietly (FirstBad line first.unread (OnItsWay first now)) first now
-StopsCarrying ReadFault first now = StopsByRead (ReadsFront first.unread now.unread (OnItsWay first now)) first now
-StopsCarrying WriteFault first now = StopsByWrite (SomeLines first.unread (TookFront first now)) first now
-StopsCarrying (Limit which) first now = StopsAtLimit which (OnItsWay first now) first now
-StopsCarrying OutOfMemory first now = StopsQuietly (SomeLines first.unread (OnItsWay first now)) first now
-StopsCarrying status first now = ⊥
-
--- both streams of a run, as they are outside of it
-abbrev pub outside : Option (List ℕ) → Option (List ℕ) → ℕ → ℕ → Streams
-outside left taken reads writes = record { held = []; unread = left; taken = taken; pending = []; reads = reads; writes = writes }
-
--- How a run of the program ended.
-abbrev pub EndsRun : Status → Streams → Streams → Type 0
-EndsRun Done first now = StopsQuietly (WholeRun first.unread now.unread (λ entries. Appends first.taken now.taken (text_of entries))) first now
-EndsRun Usage first now = ⊥
-EndsRun (BadScript line) first now = StopsQuietly (FirstBad line first.unread (Took first now)) first now
-EndsRun ReadFault first now = StopsByRead (ReadsFront first.unread now.unread (Took first now)) first now
-EndsRun WriteFault first now = StopsByWrite (SomeLines first.unread (λ entries. TakesFront first.taken now.taken (text_of entries))) first now
-EndsRun (Limit which) first now = StopsAtLimit which (Took first now) first now
-EndsRun OutOfMemory first now = StopsQuietly (SomeLines first.unread (TookFront first now)) first now
-
--- A script within the grammar and the limit of lines.
-pub record IsScript (bytes : List ℕ) : Type 0 where
-  pub spelled : AllByRecursion IsSpelled (lines_of bytes)
-  pub count : length (lines_of bytes) ≤ 2 ^ 22
-
--- How a run of such a script may end: it is done, a stream failed, or there was no memory.
-abbrev pub Completes : Status → Streams → Streams → Type 0
-Completes Done first now = Unit {0}
-Completes ReadFault first now = Rose first.reads now.reads
-Completes WriteFault first now = Rose first.writes now.writes
-Completes OutOfMemory first now = Unit {0}
-Completes status first now = ⊥
+abbrev pub TookFrontOfWhole : Option (List ℕ) → Option (List ℕ) → RunV → List Event → Type 0
+TookFrontOfWhole before now run events = TakesFront before now (run_text run events)

@@ -18,13 +18,13 @@ pub record EndsLine (held left line longer : List ℕ) : Type 0 where
   pub is_part : IsPart part
   pub splits : held ≡ part ++ 10 ∷ left
   pub grows : longer ≡ line ++ part
-  pub short : length longer ≤ 2 ^ 20
+  pub short : length longer ≤ 2 ^ 20 + 1
 
 pub record GoesOn (held left line longer : List ℕ) : Type 0 where
   pub is_part : IsPart held
   pub none : left ≡ []
   pub grows : longer ≡ line ++ held
-  pub short : length longer ≤ 2 ^ 20
+  pub short : length longer ≤ 2 ^ 20 + 1
 
 pub record PassesLimit (held left line : List ℕ) : Type 0 where
   pub same : left ≡ held
@@ -32,7 +32,7 @@ pub record PassesLimit (held left line : List ℕ) : Type 0 where
   pub rest : List ℕ
   pub is_part : IsPart part
   pub splits : held ≡ part ++ rest
-  pub long : 2 ^ 20 < length line + length part
+  pub long : 2 ^ 20 + 1 < length line + length part
 
 abbrev pub TakesPart : Part → List ℕ → List ℕ → List ℕ → List ℕ → Type 0
 TakesPart Ended held left line longer = EndsLine held left line longer
@@ -101,7 +101,7 @@ pub record BeginsLong (bytes : List ℕ) : Type 0 where
   pub rest : List ℕ
   pub is_part : IsPart part
   pub splits : bytes ≡ part ++ rest
-  pub long : 2 ^ 20 < length part
+  pub long : 2 ^ 20 + 1 < length part
 
 pub record StopsLong (before now : Streams) : Type 0 where
   pub quiet : IsQuiet before now

@@ -1,8 +1,9 @@
 //! Reads the next line of a script.
-ghost use Rattle.std.specs.Prelude.{◌≡◌, [], IfOk, IfErr, OnOk};
+ghost use Rattle.std.specs.Prelude.{◌≡◌, [], ◌∷◌, ◌++◌, List, ℕ, IfOk, IfErr, OnOk, MatchOption};
 ghost use Rattle.std.specs.Io.KnownBytes.{Appends};
 ghost use Rattle.mds_out.specs.Fault.{HasCause};
 ghost use Rattle.mds_out.specs.Stream.{TakesFront};
+ghost use Rattle.mds_cli.specs.Lines.{Lacks, without_return};
 ghost use Rattle.mds_cli.specs.Streams.{streams, ReadsLine, StopsLine};
 
 use crate::reader::{Part, Reader};
@@ -90,4 +91,28 @@ pub(crate) fn flush<K: Sink>(pending: &mut Vec<u8>, output: &mut K) -> Result<()
     write_whole(output, pending)?;
     pending.clear();
     Ok(())
+}
+
+/// The bytes before the first `stop` and those behind it, where there is one.
+pub(crate) fn split_at(bytes: &[u8], stop: u8) -> Option<(&[u8], &[u8])>
+    ensures { MatchOption result (Lacks stop bytes.now) (λ p. Lacks stop p.0.now × (bytes.now ≡ p.0.now ++ stop ∷ p.1.now)) }
+{
+    let Some(at) = memchr::memchr(stop, bytes) else {
+        return None;
+    };
+    Some((&bytes[..at], &bytes[at + 1..]))
+}
+
+/// A line without the carriage return at its end.
+pub(crate) fn without_return(line: &[u8]) -> &[u8]
+    ensures { result.now ≡ without_return line.now }
+{
+    before_return(line).unwrap_or(line)
+}
+
+/// What stands before the carriage return at a line's end, where there is one.
+fn before_return(line: &[u8]) -> Option<&[u8]>
+    ensures { MatchOption result ((front : List ℕ) → line.now ≡ front ++ 13 ∷ [] → ⊥) (λ front. line.now ≡ front.now ++ 13 ∷ []) }
+{
+    line.strip_suffix(b"\r")
 }

@@ -1,10 +1,10 @@
 //! Takes a source's bytes up in chunks, and lines out of the chunks.
-ghost use Rattle.std.specs.Prelude.{◌≡◌, ◌≤◌, ◌^◌, [], length, IfOk, OnErr, IsTrue, true, false};
+ghost use Rattle.std.specs.Prelude.{◌≡◌, ◌+◌, ◌≤◌, ◌^◌, [], length, IfOk, OnErr, IsTrue, true, false};
 ghost use Rattle.std.specs.Io.KnownBytes.{Consumes};
 ghost use Rattle.mds_out.specs.Fault.{HasCause};
 ghost use Rattle.mds_cli.specs.Streams.{TakesPart, Ends};
 
-use crate::grammar::split_at;
+use crate::line::split_at;
 use mds_out::{Failed, Source};
 use std::alloc::{AllocError, Global};
 use std::marker::Model;
@@ -12,7 +12,7 @@ use std::marker::Model;
 /// How many bytes are read at once at most.
 const CHUNK: usize = 65_536;
 
-/// The most bytes that a line may have, without its line feed.
+/// The most bytes that a line may have, without its end.
 pub(crate) const LINE_LIMIT: usize = 1 << 20;
 
 /// The bytes of a chunk that were not used yet.
@@ -77,11 +77,12 @@ impl Reader {
     /// Moves the bytes up to the next line feed behind `line`, and takes the line feed away. A line that is longer
     /// than a line may be is not looked at further than that. Where there is no memory nothing changes.
     pub(crate) fn take_part(&mut self, line: &mut Vec<u8>) -> Result<Part, AllocError>
-        requires { length line.old.items ≤ 2 ^ 20 }
+        requires { length line.old.items ≤ 2 ^ 20 + 1 }
         ensures ok { IfOk result (λ part. TakesPart part self.old self.new line.old.items line.new.items) }
         ensures err { OnErr result ((self.new ≡ self.old) × (line.new.items ≡ line.old.items)) }
     {
-        let room = LINE_LIMIT + 1 - line.len();
+        // Room for a carriage return, and for a byte that shows that the line is too long.
+        let room = LINE_LIMIT + 2 - line.len();
         let held = &self.chunk[self.from..self.to];
         let seen = &held[..room.min(held.len())];
         if let Some((part, _)) = split_at(seen, b'\n') {

@@ -1,37 +1,95 @@
-//! The program's run over its streams.
-ghost use Rattle.std.specs.Prelude.{◌≡◌, ◌↔◌, map, string_bytes, IsTrue};
-ghost use Rattle.mds_cli.specs.Run.{EndsRun, outside, IsSolo};
+//! A run of the program, from its disks to its disks.
+ghost use Rattle.std.specs.Prelude.{◌≡◌, [], length};
+ghost use Rattle.simulation.specs.Fuses.{seen_by, images_by};
+ghost use Rattle.simulation.specs.Ranges.{IsSetup};
+ghost use Rattle.mds_cli.specs.Ending.{EndsAs, EndsRunAs, outside};
 
+use crate::reader::Reader;
 use crate::session::Session;
-use crate::status::Status;
-use mds_out::{Failed, Sink, Source};
+use crate::status::{Status, status_of_fault};
+use mds_base::Setup;
+use mds_out::{Disk, Sink, Source};
+use simulation::{NotOpened, Simulation, laws_of_pasts};
 use std::alloc::Global;
+use world::laws_of_runs;
 
-/// Carries out a script, and writes its answers, then its effects.
-pub(crate) fn run<S: Source, K: Sink>(alloc: Global, input: &mut S, output: &mut K) -> Status
-    ensures ends { EndsRun result
+/// How a run ended, and its disks, each at the place at which it was handed in.
+#[derive(Drop)]
+pub struct Ended<D> {
+    /// How it ended.
+    pub status: Status,
+    /// The disks.
+    pub disks: Vec<D>,
+}
+
+/// Opens the servers on their disks and carries out a script, and writes its text.
+pub(crate) fn run<S: Source, K: Sink, D: Disk + Drop>(
+    alloc: Global,
+    setup: Setup,
+    input: &mut S,
+    output: &mut K,
+    disks: Vec<D>,
+) -> Ended<D>
+    requires setup { IsSetup setup }
+    requires disks { length disks.items ≡ setup.servers }
+    ensures ends { EndsAs D.faults D.seen D.images setup result.status disks.items result.disks.items
         (outside (S.left input.old) (K.taken output.old) (S.faults input.old) (K.faults output.old))
         (outside (S.left input.new) (K.taken output.new) (S.faults input.new) (K.faults output.new)) }
-    ensures passed_on { result ≡ Status.Done → K.passed_on output.new }
+    ensures passed_on { result.status ≡ Status.Done → K.passed_on output.new }
 {
-    let Ok(mut session) = Session::new(alloc) else {
-        return Status::OutOfMemory;
+    laws_of_runs();
+    laws_of_pasts::<D>();
+    let Ok(reader) = Reader::new(alloc) else {
+        return Ended {
+            status: Status::OutOfMemory,
+            disks,
+        };
     };
-    match session.carry(alloc, input, output) {
-        Ok(()) => match session.finish(output) {
-            Ok(()) => Status::Done,
-            Err(Failed) => Status::WriteFault,
+    match Simulation::open(alloc, setup, disks) {
+        Ok(simulation) => carry_script(alloc, reader, simulation, input, output),
+        Err(
+            NotOpened {
+                disks,
+                server,
+                fault,
+            },
+        ) => Ended {
+            status: status_of_fault(server, fault),
+            disks,
         },
-        Err(status) => session.stop(status, output),
     }
 }
 
-/// Whether the words are the one word `solo`.
-pub(crate) fn is_solo(words: &[String]) -> bool
-    ensures { IsTrue result ↔ IsSolo (map (λ word. string_bytes word) words.now) }
+/// Carries out a script on servers that were opened, and writes its text.
+fn carry_script<S: Source, K: Sink, D: Disk + Drop>(
+    alloc: Global,
+    reader: Reader,
+    simulation: Simulation<D>,
+    input: &mut S,
+    output: &mut K,
+) -> Ended<D>
+    requires { reader ≡ [] }
+    ensures ends { EndsRunAs (seen_by D.seen) (images_by D.images) D.seen D.images result.status
+        (outside (S.left input.old) (K.taken output.old) (S.faults input.old) (K.faults output.old))
+        (outside (S.left input.new) (K.taken output.new) (S.faults input.new) (K.faults output.new))
+        simulation result.disks.items }
+    ensures passed_on { result.status ≡ Status.Done → K.passed_on output.new }
 {
-    match words {
-        [word] => word.as_str() == "solo",
-        _ => false,
+    let mut session = Session::new(alloc, reader, simulation);
+    match session.carry(alloc, input, output) {
+        Ok(()) => {
+            let status = session.finish(alloc, output);
+            Ended {
+                status,
+                disks: session.into_disks(),
+            }
+        }
+        Err(status) => {
+            let status = session.stop(status, output);
+            Ended {
+                status,
+                disks: session.into_disks(),
+            }
+        }
     }
 }

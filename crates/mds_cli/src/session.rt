@@ -1,79 +1,71 @@
-//! A run line by line: each call is carried out on a plain directory, and its texts are made.
-ghost use Rattle.std.specs.Prelude.{◌≡◌, [], ◌++◌, IfOk, IfErr, OnOk, OnErr, string_bytes, codes};
-ghost use Rattle.std.specs.FinMap as map;
-ghost use Rattle.mds_cli.specs.Run.{CarriesAll, StopsCarrying};
-ghost use Rattle.mds_cli.specs.Text.{answer_line, effect_line};
-ghost use Rattle.mds_cli.specs.Turn.{streams_of, CarriesCall, StopsCall, TakesTurn, StopsTurn, StopsWith, status_of};
+//! A run line by line: each line is carried out on a simulation, and the text of its events is made.
+ghost use Rattle.std.specs.Prelude.{◌≡◌, [], ◌++◌, IfOk, IfErr, OnOk, OnErr, List, codes};
 ghost use Rattle.std.specs.Io.KnownBytes.{Appends};
 ghost use Rattle.mds_out.specs.Fault.{HasCause};
 ghost use Rattle.mds_out.specs.Stream.{TakesFront};
+ghost use Rattle.simulation.specs.Fuses.{seen_by, images_by};
+ghost use Rattle.simulation.specs.Shows.{AreServers};
+ghost use Rattle.simulation.specs.Starts.{AreDisks};
+ghost use Rattle.world.specs.declared.state.ServerState.{ServerState};
+ghost use Rattle.mds_cli.specs.Ending.{CarriesAll, StopsCarryingAs};
+ghost use Rattle.mds_cli.specs.Streams.{streams};
+ghost use Rattle.mds_cli.specs.Turn.{CarriesOut, StopsCall, TakesTurn, StopsTurn, StopsWith, FinishesWith, status_of};
 
-use crate::grammar::call_of;
-use crate::line::{Line, Stop, flush, next_line};
-use crate::reader::Reader;
-use crate::status::Status;
-use crate::text::{AnswerLine, EffectLine};
-use mds_base::{Entry, Which};
-use mds_out::{Failed, Sink, Source, write_whole};
-use plain_dir::PlainDir;
-use std::alloc::{AllocError, Global};
-use std::fmt::Write;
+use crate::line::{Line, Stop, flush, next_line, without_return};
+use crate::reader::{LINE_LIMIT, Reader};
+use crate::status::{Status, status_of_halt};
+use interpreter::Interpreter;
+use mds_base::Which;
+use mds_out::{Disk, Failed, Sink, Source, write_whole};
+use script::{LineFault, read_line};
+use simulation::Simulation;
+use std::alloc::Global;
 
 /// The most lines that a script may have.
 const LINE_COUNT: u64 = 1 << 22;
 
 /// A run at one moment.
 #[derive(Drop)]
-pub(crate) struct Session {
+pub(crate) struct Session<D: Disk> {
     /// The bytes that were read and not used yet.
     pub(crate) reader: Reader,
     /// The present line.
     pub(crate) line: Vec<u8>,
-    /// The answers that were not written yet.
-    pub(crate) pending: Vec<u8>,
-    /// The present answer.
-    pub(crate) answer: String,
-    /// The effects so far.
-    pub(crate) effects: String,
-    /// The directory so far.
-    pub(crate) directory: PlainDir,
+    /// The servers, clients and messages, and the text that was not written yet.
+    pub(crate) interpreter: Interpreter<D>,
 }
 
-impl Session {
+impl<D: Disk> Session<D> {
     /// A run before its first line.
-    pub(crate) fn new(alloc: Global) -> Result<Session, AllocError>
-        ensures reader { IfOk result (λ session. session.reader ≡ []) }
-        ensures pending { IfOk result (λ session. session.pending.items ≡ []) }
-        ensures effects { IfOk result (λ session. string_bytes session.effects ≡ []) }
-        ensures directory { IfOk result (λ session. session.directory ≡ map.empty) }
+    pub(crate) fn new(alloc: Global, reader: Reader, simulation: Simulation<D>) -> Session<D>
+        ensures reader { result.reader ≡ reader }
+        ensures simulation { result.interpreter.simulation ≡ simulation }
+        ensures pending { result.interpreter.pending.items ≡ [] }
     {
-        Ok(Session {
-            reader: Reader::new(alloc)?,
+        Session {
+            reader,
             line: Vec::new(alloc),
-            pending: Vec::new(alloc),
-            answer: String::new(alloc),
-            effects: String::new(alloc),
-            directory: PlainDir::new(alloc),
-        })
+            interpreter: Interpreter::new(alloc, simulation),
+        }
     }
 
-    /// Carries out all lines, as client 1's calls numbered from 1.
+    /// Carries out all lines.
     pub(crate) fn carry<S: Source, K: Sink>(
         &mut self,
         alloc: Global,
         input: &mut S,
         output: &mut K,
     ) -> Result<(), Status>
-        requires pending { self.old.pending.items ≡ [] }
-        requires effects { string_bytes self.old.effects ≡ [] }
-        requires directory { self.old.directory ≡ map.empty }
-        ensures ok { OnOk result (CarriesAll
-            (streams_of self.old (S.left input.old) (K.taken output.old) (S.faults input.old) (K.faults output.old))
-            (streams_of self.new (S.left input.new) (K.taken output.new) (S.faults input.new) (K.faults output.new))
-            (string_bytes self.new.effects)) }
-        ensures err { IfErr result (λ status. StopsCarrying status
-            (streams_of self.old (S.left input.old) (K.taken output.old) (S.faults input.old) (K.faults output.old))
-            (streams_of self.new (S.left input.new) (K.taken output.new) (S.faults input.new) (K.faults output.new))) }
+        requires { self.old.interpreter.pending.items ≡ [] }
+        ensures ok { OnOk result (CarriesAll (seen_by D.seen) (images_by D.images)
+            (streams self.old.reader (S.left input.old) (K.taken output.old) self.old.interpreter.pending.items (S.faults input.old) (K.faults output.old))
+            (streams self.new.reader (S.left input.new) (K.taken output.new) self.new.interpreter.pending.items (S.faults input.new) (K.faults output.new))
+            self.old.interpreter.simulation self.new.interpreter.simulation) }
+        ensures err { IfErr result (λ status. StopsCarryingAs (seen_by D.seen) (images_by D.images) status
+            (streams self.old.reader (S.left input.old) (K.taken output.old) self.old.interpreter.pending.items (S.faults input.old) (K.faults output.old))
+            (streams self.new.reader (S.left input.new) (K.taken output.new) self.new.interpreter.pending.items (S.faults input.new) (K.faults output.new))
+            self.old.interpreter.simulation self.new.interpreter.simulation) }
+        ensures setup { self.new.interpreter.simulation.setup ≡ self.old.interpreter.simulation.setup }
     {
         let mut number = 0;
         'lines: loop {
@@ -86,36 +78,8 @@ impl Session {
         }
     }
 
-    /// Writes the answers that are still pending, the effects and `end`, and passes all on.
-    pub(crate) fn finish<K: Sink>(&mut self, output: &mut K) -> Result<(), Failed>
-        ensures whole { OnOk result (Appends (K.taken output.old) (K.taken output.new) (self.old.pending.items ++ string_bytes self.old.effects ++ codes "end\n")) }
-        ensures passed_on { OnOk result (K.passed_on output.new) }
-        ensures front { TakesFront (K.taken output.old) (K.taken output.new) (self.old.pending.items ++ string_bytes self.old.effects ++ codes "end\n") }
-        ensures cause { HasCause (K.faults output.old) (K.faults output.new) result }
-        ensures reader { self.new.reader ≡ self.old.reader }
-    {
-        write_both(output, &self.pending, self.effects.as_bytes())?;
-        write_whole(output, b"end\n")?;
-        output.finish()
-    }
-
-    /// Writes the answers that are still pending before the run stops with this status. Where the sink fails, or
-    /// failed before, the status is `WriteFault`.
-    pub(crate) fn stop<K: Sink>(&mut self, status: Status, output: &mut K) -> Status
-        ensures cases { StopsWith status result (K.taken output.old) (K.taken output.new) (K.faults output.old) (K.faults output.new) self.old.pending.items }
-        ensures reader { self.new.reader ≡ self.old.reader }
-    {
-        match status {
-            Status::WriteFault => Status::WriteFault,
-            _ => match flush(&mut self.pending, output) {
-                Ok(()) => status,
-                Err(Failed) => Status::WriteFault,
-            },
-        }
-    }
-
-    /// Reads the next line and carries out its call, as call `number` of client 1. A line past the last one that a
-    /// script may have is refused, as one outside the grammar or by the limit.
+    /// Reads the next line and carries it out, as the line of this number. A line past the last one that a script may
+    /// have is refused, as a bad one or by the limit.
     fn turn<S: Source, K: Sink>(
         &mut self,
         alloc: Global,
@@ -123,19 +87,20 @@ impl Session {
         input: &mut S,
         output: &mut K,
     ) -> Result<Line, Status>
-        ensures ok { IfOk result (λ found. TakesTurn found
-            (streams_of self.old (S.left input.old) (K.taken output.old) (S.faults input.old) (K.faults output.old))
-            (streams_of self.new (S.left input.new) (K.taken output.new) (S.faults input.new) (K.faults output.new))
-            number self.old self.new) }
-        ensures err { IfErr result (λ status. StopsTurn status
-            (streams_of self.old (S.left input.old) (K.taken output.old) (S.faults input.old) (K.faults output.old))
-            (streams_of self.new (S.left input.new) (K.taken output.new) (S.faults input.new) (K.faults output.new))
-            number) }
+        ensures ok { IfOk result (λ found. TakesTurn (seen_by D.seen) (images_by D.images) found
+            (streams self.old.reader (S.left input.old) (K.taken output.old) self.old.interpreter.pending.items (S.faults input.old) (K.faults output.old))
+            (streams self.new.reader (S.left input.new) (K.taken output.new) self.new.interpreter.pending.items (S.faults input.new) (K.faults output.new))
+            number self.old.interpreter.simulation self.new.interpreter.simulation) }
+        ensures err { IfErr result (λ status. StopsTurn (seen_by D.seen) (images_by D.images) status
+            (streams self.old.reader (S.left input.old) (K.taken output.old) self.old.interpreter.pending.items (S.faults input.old) (K.faults output.old))
+            (streams self.new.reader (S.left input.new) (K.taken output.new) self.new.interpreter.pending.items (S.faults input.new) (K.faults output.new))
+            number self.old.interpreter.simulation self.new.interpreter.simulation) }
+        ensures setup { self.new.interpreter.simulation.setup ≡ self.old.interpreter.simulation.setup }
     {
         let found = match next_line(
             &mut self.reader,
             &mut self.line,
-            &mut self.pending,
+            &mut self.interpreter.pending,
             input,
             output,
         ) {
@@ -155,49 +120,96 @@ impl Session {
         }
     }
 
-    /// Carries out the call that the present line spells.
+    /// Carries out the present line, as the one of this number.
     fn carry_out(&mut self, alloc: Global, number: u64) -> Result<(), Status>
-        ensures ok { OnOk result (CarriesCall self.old.line.items number self.old self.new) }
-        ensures err { IfErr result (λ status. StopsCall status self.old.line.items number) }
-        ensures pending { OnErr result (self.new.pending.items ≡ self.old.pending.items) }
-        ensures reader { OnErr result (self.new.reader ≡ self.old.reader) }
+        ensures ok { OnOk result (CarriesOut (seen_by D.seen) (images_by D.images) self.old.interpreter.simulation self.new.interpreter.simulation self.old.interpreter.pending.items self.new.interpreter.pending.items self.old.line.items number) }
+        ensures err { IfErr result (λ status. StopsCall (seen_by D.seen) (images_by D.images) status self.old.interpreter.simulation self.new.interpreter.simulation self.old.interpreter.pending.items self.new.interpreter.pending.items self.old.line.items number) }
+        ensures reader { self.new.reader ≡ self.old.reader }
+        ensures setup { self.new.interpreter.simulation.setup ≡ self.old.interpreter.simulation.setup }
     {
-        let Some(call) = call_of(alloc, &self.line)? else {
+        let bytes = without_return(&self.line);
+        if bytes.len() > LINE_LIMIT {
             return Err(Status::BadScript { line: number });
+        }
+        let line = match read_line(alloc, bytes, &self.interpreter.simulation.setup()) {
+            Ok(line) => line,
+            Err(LineFault::NotALine) => return Err(Status::BadScript { line: number }),
+            Err(LineFault::OutOfMemory) => return Err(Status::OutOfMemory),
         };
+        if !self.interpreter.is_allowed(&line) {
+            return Err(Status::BadScript { line: number });
+        }
         if number > LINE_COUNT {
             return Err(Status::Limit {
                 which: Which::Lines,
             });
         }
-        let reply = self.directory.apply(alloc, &call, 0)?;
-        let entry = Entry {
-            client: 1,
-            seq: number,
-            call,
-            reply,
-        };
-        self.note(&entry)?;
-        Ok(())
+        match self.interpreter.carry_out(alloc, line) {
+            Ok(()) => Ok(()),
+            Err(halt) => Err(status_of_halt(halt)),
+        }
     }
 
-    /// Makes the texts of an entry. Where there is no memory its answer is not made.
-    fn note(&mut self, entry: &Entry) -> Result<(), AllocError>
-        ensures answer { OnOk result (self.new.pending.items ≡ self.old.pending.items ++ answer_line entry.now) }
-        ensures effect { OnOk result (string_bytes self.new.effects ≡ string_bytes self.old.effects ++ effect_line entry.now) }
-        ensures err { OnErr result (self.new.pending.items ≡ self.old.pending.items) }
-        ensures reader { self.new.reader ≡ self.old.reader }
-        ensures directory { self.new.directory ≡ self.old.directory }
+    /// Writes what is left of the text of a run whose lines were all carried out, and says how the run ended. Where there
+    /// is no memory for the effects, only what was pending is written.
+    pub(crate) fn finish<K: Sink>(&mut self, alloc: Global, output: &mut K) -> Status
+        ensures cases { FinishesWith (seen_by D.seen) (images_by D.images) self.old.interpreter.simulation result (K.taken output.old) (K.taken output.new) (K.faults output.old) (K.faults output.new) self.old.interpreter.pending.items }
+        ensures passed_on { result ≡ Status.Done → K.passed_on output.new }
+        ensures simulation { self.new.interpreter.simulation ≡ self.old.interpreter.simulation }
     {
-        write!(self.effects, "{}", EffectLine(entry))?;
-        self.answer.clear();
-        write!(self.answer, "{}", AnswerLine(entry))?;
-        self.pending.extend_from_slice(self.answer.as_bytes())
+        let Ok(effects) = self.interpreter.effects(alloc) else {
+            return self.stop(Status::OutOfMemory, output);
+        };
+        match self.write_rest(effects.as_bytes(), output) {
+            Ok(()) => Status::Done,
+            Err(Failed) => Status::WriteFault,
+        }
+    }
+
+    /// Writes the text that is still pending, the effects and `end`, and passes all on.
+    fn write_rest<K: Sink>(&self, effects: &[u8], output: &mut K) -> Result<(), Failed>
+        ensures whole { OnOk result (Appends (K.taken output.old) (K.taken output.new) (self.now.interpreter.pending.items ++ effects.now ++ codes "end\n")) }
+        ensures passed_on { OnOk result (K.passed_on output.new) }
+        ensures front { TakesFront (K.taken output.old) (K.taken output.new) (self.now.interpreter.pending.items ++ effects.now ++ codes "end\n") }
+        ensures cause { HasCause (K.faults output.old) (K.faults output.new) result }
+    {
+        write_both(output, &self.interpreter.pending, effects)?;
+        write_whole(output, b"end\n")?;
+        output.finish()
+    }
+
+    /// Writes the text that is still pending before the run stops with this status. Where the sink fails, or failed
+    /// before, the status is `WriteFault`; but want of memory stays.
+    pub(crate) fn stop<K: Sink>(&mut self, status: Status, output: &mut K) -> Status
+        ensures cases { StopsWith status result (K.taken output.old) (K.taken output.new) (K.faults output.old) (K.faults output.new) self.old.interpreter.pending.items }
+        ensures simulation { self.new.interpreter.simulation ≡ self.old.interpreter.simulation }
+    {
+        match status {
+            Status::WriteFault => Status::WriteFault,
+            Status::OutOfMemory => {
+                let _ = flush(&mut self.interpreter.pending, output);
+                Status::OutOfMemory
+            }
+            _ => match flush(&mut self.interpreter.pending, output) {
+                Ok(()) => status,
+                Err(Failed) => Status::WriteFault,
+            },
+        }
+    }
+}
+
+impl<D: Disk + Drop> Session<D> {
+    /// The disks, each at its place.
+    pub(crate) fn into_disks(self) -> Vec<D>
+        ensures { (servers : List ServerState) → AreServers (seen_by D.seen) (images_by D.images) self.interpreter.simulation.setup self.interpreter.simulation.stores servers → AreDisks D.seen D.images self.interpreter.simulation.setup result.items servers }
+    {
+        let Session { interpreter, .. } = self;
+        interpreter.into_disks()
     }
 }
 
 /// The status with which a run ends where no line was found.
-pub(crate) fn status_of(stop: Stop, number: u64) -> Status
+fn status_of(stop: Stop, number: u64) -> Status
     ensures { result ≡ status_of stop number }
 {
     match stop {

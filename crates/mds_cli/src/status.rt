@@ -1,8 +1,11 @@
 //! How a run of the program ended.
 ghost use Rattle.std.specs.Prelude.{◌≡◌};
-ghost use Rattle.mds_cli.specs.Code.{code_of};
+ghost use Rattle.interpreter.specs.declared.interpreter.Halt.{Halt};
+ghost use Rattle.mds_base.specs.declared.store_fault.StoreFault.{StoreFault};
+ghost use Rattle.mds_cli.specs.Code.{code_of, status_of_halt, status_of_fault};
 
-use mds_base::Which;
+use interpreter::Halt;
+use mds_base::{Damage, StoreFault, Which};
 use std::alloc::AllocError;
 use std::fmt;
 
@@ -13,14 +16,37 @@ pub enum Status {
     Done,
     /// The words are none that the program knows; nothing was read or written.
     Usage,
-    /// The line of this number, counted from 1, is the first that is outside the script's grammar.
-    BadScript { line: u64 },
+    /// The line of this number, counted from 1, is the first that is outside the script's grammar or not allowed at its
+    /// place.
+    BadScript {
+        /// The line.
+        line: u64,
+    },
     /// The input failed.
     ReadFault,
     /// The output failed.
     WriteFault,
-    /// The script would pass a limit; what would pass it was not carried out.
-    Limit { which: Which },
+    /// The disk of a server failed while the server was opened; nothing was read or written.
+    OpenFault {
+        /// The server.
+        server: u32,
+    },
+    /// The disk of a server is damaged.
+    BadDisk {
+        /// The server.
+        server: u32,
+        /// The file.
+        file: u32,
+        /// The place in the file.
+        place: u64,
+        /// What is wrong there.
+        damage: Damage,
+    },
+    /// The run would pass a limit; what would pass it was not carried out.
+    Limit {
+        /// Which.
+        which: Which,
+    },
     /// There was no memory.
     OutOfMemory,
 }
@@ -49,6 +75,16 @@ impl fmt::Display for Status {
             Status::BadScript { line } => write!(f, "bad script at line {line}"),
             Status::ReadFault => write!(f, "read fault"),
             Status::WriteFault => write!(f, "write fault"),
+            Status::OpenFault { server } => write!(f, "server {server} did not open"),
+            Status::BadDisk {
+                server,
+                file,
+                place,
+                ..
+            } => write!(
+                f,
+                "damaged disk of server {server}, file {file}, place {place}"
+            ),
             Status::Limit { which } => write!(f, "limit {}", LimitText(*which)),
             Status::OutOfMemory => write!(f, "out of memory"),
         }
@@ -86,7 +122,50 @@ pub fn code(status: &Status) -> u8
         Status::BadScript { .. } => 3,
         Status::ReadFault => 4,
         Status::WriteFault => 5,
+        Status::OpenFault { .. } => 6,
+        Status::BadDisk { .. } => 7,
         Status::Limit { .. } => 8,
         Status::OutOfMemory => 9,
+    }
+}
+
+/// The status with which a run ends that was halted within a line.
+pub(crate) fn status_of_halt(halt: Halt) -> Status
+    ensures { result ≡ status_of_halt halt }
+{
+    match halt {
+        Halt::Limit { which } => Status::Limit { which },
+        Halt::Damaged {
+            server,
+            file,
+            place,
+            damage,
+        } => Status::BadDisk {
+            server,
+            file,
+            place,
+            damage,
+        },
+        Halt::OutOfMemory => Status::OutOfMemory,
+    }
+}
+
+/// The status with which a run ends whose servers were not opened.
+pub(crate) fn status_of_fault(server: u32, fault: StoreFault) -> Status
+    ensures { result ≡ status_of_fault server fault }
+{
+    match fault {
+        StoreFault::Device => Status::OpenFault { server },
+        StoreFault::Damaged {
+            file,
+            place,
+            damage,
+        } => Status::BadDisk {
+            server,
+            file,
+            place,
+            damage,
+        },
+        _ => Status::OutOfMemory,
     }
 }

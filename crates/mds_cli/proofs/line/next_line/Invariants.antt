@@ -15,4 +15,4 @@ invariant-parts g l =
 
 -- each turn but the first takes a byte at least
 abbrev pub decreases-parts : goal.decreases-parts
-decreases-parts g l = (2 ^ 20 - length l.line.items) * 2 + (1 - length l.reader)
+decreases-parts g l = (2 ^ 20 + 1 - length l.line.items) * 2 + (1 - length l.reader)

@@ -1,18 +1,9 @@
-use Rattle.std.proofs.Common.{◌∙◌, ap}
-use Rattle.std.specs.Prelude.{string_bytes}
-use Rattle.std.specs.Io.KnownBytes.{prepend_known}
-use Rattle.mds_cli.specs.Turn.{streams_of}
-use Rattle.mds_cli.proofs.Running.{prepend_none, no_memory, run_done, run_broken, run_stopped}
+use Rattle.std.proofs.Common.{arith}
+use Rattle.simulation.specs.Fuses.{seen_by, images_by}
+use Rattle.mds_cli.specs.Ending.{outside}
+use Rattle.mds_cli.proofs.Opening.{ends_over}
 use Rattle.mds_cli.proofs.run.run.Goals as goal
 
-pub returns-in_default-clause-ends : goal.returns-in_default-clause-ends
-returns-in_default-clause-ends g c = no_memory (g.S.Source.left c.args.input.now) (g.K.Sink.taken c.args.output.now) (g.S.Source.faults c.args.input.now) (g.K.Sink.faults c.args.output.now)
-
-pub returns-in-Ok-finish-clause-ends : goal.returns-in-Ok-finish-clause-ends
-returns-in-Ok-finish-clause-ends g c = run_done (streams_of c.in-Ok.session (g.S.Source.left c.args.input.now) (g.K.Sink.taken c.args.output.now) (g.S.Source.faults c.args.input.now) (g.K.Sink.faults c.args.output.now)) (g.S.Source.left c.args.input.now) (ap (λ h. prepend_known h (g.S.Source.left c.args.input.now)) c.in-Ok.ensures.reader ∙ prepend_none (g.S.Source.left c.args.input.now)) c.carry.new.self.reader (g.S.Source.left c.carry.new.input) (g.K.Sink.taken c.carry.new.output) c.carry.new.self.pending.items (g.S.Source.faults c.carry.new.input) (g.K.Sink.faults c.carry.new.output) (g.K.Sink.taken c.finish.new.output) (g.K.Sink.faults c.finish.new.output) (string_bytes c.carry.new.self.effects) c.in-Ok-carry.ensures.ok c.in-Ok-finish.ensures.whole c.in-Ok-finish.ensures.cause.kept
-
-pub returns-in-Ok-carry-clause-ends : goal.returns-in-Ok-carry-clause-ends
-returns-in-Ok-carry-clause-ends g c = run_broken (streams_of c.in-Ok.session (g.S.Source.left c.args.input.now) (g.K.Sink.taken c.args.output.now) (g.S.Source.faults c.args.input.now) (g.K.Sink.faults c.args.output.now)) (g.S.Source.left c.args.input.now) (ap (λ h. prepend_known h (g.S.Source.left c.args.input.now)) c.in-Ok.ensures.reader ∙ prepend_none (g.S.Source.left c.args.input.now)) c.carry.new.self.reader (g.S.Source.left c.carry.new.input) (g.K.Sink.taken c.carry.new.output) c.carry.new.self.pending.items (g.S.Source.faults c.carry.new.input) (g.K.Sink.faults c.carry.new.output) (g.K.Sink.taken c.finish.new.output) (g.K.Sink.faults c.finish.new.output) (string_bytes c.carry.new.self.effects) c.in-Ok-carry.ensures.ok c.in-Err-finish.ensures.front c.in-Err-finish.ensures.cause.failed
-
-pub returns-clause-ends : goal.returns-clause-ends
-returns-clause-ends g c = run_stopped (streams_of c.in-Ok.session (g.S.Source.left c.args.input.now) (g.K.Sink.taken c.args.output.now) (g.S.Source.faults c.args.input.now) (g.K.Sink.faults c.args.output.now)) (g.S.Source.left c.args.input.now) (ap (λ h. prepend_known h (g.S.Source.left c.args.input.now)) c.in-Ok.ensures.reader ∙ prepend_none (g.S.Source.left c.args.input.now)) c.carry.new.self.reader (g.S.Source.left c.carry.new.input) (g.K.Sink.taken c.carry.new.output) c.carry.new.self.pending.items (g.S.Source.faults c.carry.new.input) (g.K.Sink.faults c.carry.new.output) (g.K.Sink.taken c.stop.new.output) (g.K.Sink.faults c.stop.new.output) c.in-Err.status c.stop.result c.in-Err.ensures.err c.stop.ensures.cases
+pub returns-in-Ok-open-clause-ends : goal.returns-in-Ok-open-clause-ends
+returns-in-Ok-open-clause-ends g c =
+    ends_over (seen_by g.D.Disk.seen) (images_by g.D.Disk.images) g.D.Disk.faults g.D.Disk.seen g.D.Disk.images c.args.setup c.args.disks.items c.carry_script.result.disks.items (outside (g.S.Source.left c.args.input.now) (g.K.Sink.taken c.args.output.now) (g.S.Source.faults c.args.input.now) (g.K.Sink.faults c.args.output.now)) (outside (g.S.Source.left c.carry_script.new.input) (g.K.Sink.taken c.carry_script.new.output) (g.S.Source.faults c.carry_script.new.input) (g.K.Sink.faults c.carry_script.new.output)) c.in-Ok-open.simulation (omega (arith, c.requires.setup.some_server)) c.in-Ok-open.ensures.fresh.setup' c.in-Ok-open.ensures.begins c.laws_of_runs.ensures c.laws_of_pasts.ensures c.carry_script.result.status c.carry_script.ensures.ends

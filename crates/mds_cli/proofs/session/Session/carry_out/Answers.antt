@@ -1,14 +1,36 @@
-use Rattle.std.proofs.Common.{◌∙◌, subst, refl}
-use Rattle.mds_cli.specs.Grammar.{Spells}
+use Rattle.std.proofs.Common.{◌∙◌, sym, ap, subst, refl, arith, Err}
+use Rattle.simulation.specs.Fuses.{seen_by, images_by}
+use Rattle.mds_cli.specs.Lines.{without_return}
+use Rattle.mds_cli.specs.Turn.{StopsCall}
+use Rattle.mds_cli.proofs.Calling.{none_bad, says_line, stops_halted, refused_line}
 use Rattle.mds_cli.proofs.session.Session.carry_out.Goals as goal
 
-pub returns-clause-ok : goal.returns-clause-ok
-returns-clause-ok c = record {
-  entry = record { client = 1; seq = c.args.number; call = c.in-Some.call; reply = c.in_ok-reply.reply };
-  is_entry = record { client = refl; seq = refl; call = subst (λ l. Spells l c.in-Some.call) c.deref.ensures.value (rw c.in-Some.is at c.in_ok-call.ensures) };
-  within = c.if-number-gt-LINE_COUNT.false;
-  step = (c.in_ok-reply.ensures.step.0, c.in_ok-note.ensures.directory ∙ c.in_ok-reply.ensures.step.1);
-  pending = c.in_ok-note.ensures.answer;
-  effects = c.in_ok-note.ensures.effect;
-  reader = c.in_ok-note.ensures.reader;
-}
+pub returns-in-Err-NotALine-clause-err : goal.returns-in-Err-NotALine-clause-err
+returns-in-Err-NotALine-clause-err g c = (
+  refl,
+  record {
+    same = refl;
+    pending = refl;
+    runs = λ run shows. none_bad c.args.self.now.interpreter.simulation.setup c.setup.result c.args.self.now.line.items c.without_return-bytes.result.now (c.without_return-bytes.ensures ∙ ap without_return c.deref.ensures.value) c.setup.ensures run (c.in-Err-NotALine.ensures.not_a_line (ap Err c.in-Err-NotALine.field-0-is));
+  },
+)
+
+pub returns-then-not-is_allowed-clause-err : goal.returns-then-not-is_allowed-clause-err
+returns-then-not-is_allowed-clause-err g c = (
+  refl,
+  record {
+    same = refl;
+    pending = refl;
+    runs = λ run shows. refused_line c.args.self.now.interpreter.simulation.setup run c.args.self.now.line.items c.in-Ok.line c.is_allowed.result
+        (says_line c.args.self.now.interpreter.simulation.setup c.setup.result c.args.self.now.line.items c.without_return-bytes.result.now (c.without_return-bytes.ensures ∙ ap without_return c.deref.ensures.value) c.setup.ensures c.in-Ok.line (omega (arith, c.if-bytes-gt-LINE_LIMIT.false)) c.in-Ok.ensures.found)
+        (c.is_allowed.ensures.allowed run shows) c.if-not-is_allowed.true;
+  },
+)
+
+pub returns-in-Err-clause-err : goal.returns-in-Err-clause-err
+returns-in-Err-clause-err g c =
+    subst (λ s. StopsCall (seen_by g.D.Disk.seen) (images_by g.D.Disk.images) s c.args.self.now.interpreter.simulation c.carry_out.new.self.simulation c.args.self.now.interpreter.pending.items c.carry_out.new.self.pending.items c.args.self.now.line.items c.args.number) (sym c.status_of_halt.ensures)
+    (stops_halted (seen_by g.D.Disk.seen) (images_by g.D.Disk.images) c.args.self.now.interpreter.simulation c.carry_out.new.self.simulation c.args.self.now.interpreter.pending.items c.carry_out.new.self.pending.items c.args.self.now.line.items c.args.number c.in-Ok.line
+    (says_line c.args.self.now.interpreter.simulation.setup c.setup.result c.args.self.now.line.items c.without_return-bytes.result.now (c.without_return-bytes.ensures ∙ ap without_return c.deref.ensures.value) c.setup.ensures c.in-Ok.line (omega (arith, c.if-bytes-gt-LINE_LIMIT.false)) c.in-Ok.ensures.found)
+    (λ run shows. sym (c.is_allowed.ensures.allowed run shows) ∙ c.if-not-is_allowed.false)
+    (omega (arith, c.if-number-gt-LINE_COUNT.false)) c.in-Err.ensures.setup c.in-Err.halt c.in-Err.ensures.err)

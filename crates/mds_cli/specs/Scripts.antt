@@ -1,0 +1,42 @@
+-- Scripts that are carried out to their end, whatever the devices do.
+use Rattle.std.specs.Prelude.{◌≡◌, ℕ, ◌≤◌, ◌^◌, Bool, true, List, [], ◌∷◌, ◌++◌, length}
+use Rattle.mds_base.specs.declared.setup.Setup.{Setup}
+use Rattle.mds_base.specs.declared.setup.Which.{Which}
+use Rattle.mds_base.specs.Entries.{Entries}
+use Rattle.script.specs.declared.line.Line.{Line}
+use Rattle.simulation.specs.Openings.{with_choice}
+use Rattle.simulation.specs.Runs.{RunV, start_run}
+use Rattle.world.specs.declared.event.Event.{Event}
+use Rattle.world.specs.declared.state.ServerState.{ServerState}
+use Rattle.world.specs.Law.{PastRun, IsReached}
+use Rattle.interpreter.specs.Steps.{IsAtLimit}
+use Rattle.interpreter.specs.Story.{grown_by, all_may, is_allowed, IsDone, IsBegun}
+use Rattle.mds_cli.specs.Follows.{Says}
+use Rattle.mds_cli.specs.Lines.{lines_of}
+use Rattle.mds_cli.specs.declared.status.Status.{Status}
+use Rattle.mds_cli.specs.declared.status.Status.TheVariants.{Usage, BadScript, BadDisk, Limit}
+
+-- no event of the line would pass a limit
+abbrev pub StaysWithin : RunV → Line → Type 0
+StaysWithin run line =
+    (which : Which) (events : List Event) → IsBegun run line events → all_may run events ≡ true → IsAtLimit which (grown_by run events) (λ event. IsBegun run line (events ++ event ∷ [])) → ⊥
+
+-- each line says something, is allowed at its place and stays within the limits, however the lines before it ended
+abbrev pub IsScript : Setup → RunV → List (List ℕ) → Type 0
+IsScript setup run [] = Unit {0}
+IsScript setup run (bytes ∷ more) =
+    (line : Line) × Says setup bytes line × (is_allowed run.trace.world line ≡ true) × StaysWithin run line
+    × ((events : List Event) → IsDone run line events → all_may run events ≡ true → IsScript setup (grown_by run events) more)
+
+-- the bytes are such a script, of no more lines than one may have, wherever the past of the disks leads
+pub record IsWithinLimits (setup : Setup) (past : List PastRun) (bytes : List ℕ) : Type 0 where
+  pub count : length (lines_of bytes) ≤ 2 ^ 22
+  pub each : (keep : ℕ → Bool) (servers : List ServerState) (entries : Entries) → IsReached setup (with_choice keep past) servers entries → IsScript setup (start_run setup servers entries) (lines_of bytes)
+
+-- how a run of such a script may end: it is done, or a stream or a disk failed, or there was no memory
+abbrev pub Completes : Status → Type 0
+Completes Usage = ⊥
+Completes (BadScript line) = ⊥
+Completes (BadDisk server file place damage) = ⊥
+Completes (Limit which) = ⊥
+Completes status = Unit {0}
