@@ -6,6 +6,7 @@
 #![tactic(auto)]
 
 ghost use Rattle.std.specs.Prelude.{◌≡◌, length, IfOk};
+ghost use Rattle.mds_cli.specs.Fresh.{AreNewMemories};
 
 mod input;
 mod output;
@@ -49,9 +50,11 @@ fn run(rt: &HostRuntime) -> Status {
     giga_solo(rt.alloc(), &words, &mut input, &mut output, disks).status
 }
 
-/// So many new disks in memory, of which a crash leaves what was synced.
+/// So many new disks in memory, of which a crash leaves what was synced: disks to which the empty past leads, by
+/// `laws_of_new_disks` of `mds_cli`.
 fn new_disks(alloc: Global, count: u32) -> Result<Vec<Memory>, AllocError>
-    ensures { IfOk result (λ disks. length disks.items ≡ count) }
+    ensures count { IfOk result (λ disks. length disks.items ≡ count) }
+    ensures new { IfOk result (λ disks. AreNewMemories disks.items) }
 {
     let mut disks = Vec::new(alloc);
     for _ in 0..count {

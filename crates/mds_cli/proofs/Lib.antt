@@ -13,3 +13,4 @@ pub mod Spellings
 pub mod Options
 pub mod Completing
 pub mod Clauses
+pub mod Newly

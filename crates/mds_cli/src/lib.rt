@@ -7,6 +7,7 @@
 //! are in `specs/` and in plain words in `docs/DEFINITIONS.md`. Its one contract is the clauses of `giga_solo`.
 #![tactic(auto)]
 
+mod law;
 mod line;
 mod reader;
 mod run;
@@ -15,6 +16,7 @@ mod solo;
 mod status;
 mod words;
 
+pub use law::laws_of_new_disks;
 pub use mds_base::{Damage, Head, Which};
 pub use run::Ended;
 pub use solo::giga_solo;
