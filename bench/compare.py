@@ -1,43 +1,124 @@
-"""Times two programs on the same scripts and compares what they write: compare.py PROGRAM PLAIN FOLDER RUNS."""
+"""Prints what the program takes beside others that do the same: compare.py PROGRAM PLAIN PEER FOLDER RUNS."""
+import ctypes
+import filecmp
 import os
-import resource
-import subprocess
 import sys
+from collections import namedtuple
+
+import scripts
+
+# How many calls a script has. A run has at most 2^20 events and a call is three, so 10^6 calls are past the limit.
+SIZES = (10**4, 10**5, 3 * 10**5)
+
+# The most runs of the largest scripts, since they are long.
+LONG_RUNS = 5
+
+# The aims: at most so many times the time and the memory of the peer, and at most so many times the time for ten times
+# as many calls.
+PEER, DECADE = 1.5, 12
+
+# A program's name, its command, what makes its script, and what is said of its text beside that of the first program.
+Program = namedtuple("Program", "name words lines verdict")
 
 
-def script(lines, names):
-    state, out = 7, []
-    for _ in range(lines):
-        state = (state * 6364136223846793005 + 1442695040888963407) % 2**64
-        verb = ("create", "create", "lookup", "remove")[(state >> 33) % 4]
-        out.append(f"call 1 {verb} 1 f{(state >> 40) % names}\n")
-    return "".join(out).encode()
+def measure(words, script, text):
+    """Runs a command on a script: seconds of one processor, user and system, and the peak of its memory in MB.
+
+    Linux counts what the parent held when it started a child as the child's own, and Python holds 10 MB. So a shell,
+    which holds less than 1, starts the command and ends, and the command is then waited for as an orphan."""
+    shell = ["sh", "-c", 'script=$1 text=$2; shift 2; "$@" <"$script" >"$text" &', "sh", script, text, *words]
+    os.waitpid(os.posix_spawnp("sh", shell, os.environ), 0)
+    _, status, used = os.wait4(-1, 0)
+    if status != 0:
+        sys.exit(f"{' '.join(words)} ended with status {os.waitstatus_to_exitcode(status)}")
+    return used.ru_utime + used.ru_stime, used.ru_maxrss / 1024
 
 
-def seconds(program, path, out):
-    with open(path, "rb") as source, open(out, "wb") as sink:
-        before = resource.getrusage(resource.RUSAGE_CHILDREN)
-        subprocess.run([program, "solo"], stdin=source, stdout=sink, check=True)
-        after = resource.getrusage(resource.RUSAGE_CHILDREN)
-    return after.ru_utime + after.ru_stime - before.ru_utime - before.ru_stime
+def write_script(lines, size, folder):
+    """Writes a script to a file of its own, and answers where it is."""
+    path = os.path.join(folder, f"{lines.__name__}-{size}")
+    with open(path, "w") as file:
+        file.writelines(lines(size))
+    return path
+
+
+def least(programs, runs, folder):
+    """The least that each program took of several runs of each in turn, and what is said of its text, by size and name.
+    The sizes come in turn too, so that a time at which the machine is busy falls on all of them."""
+    scripts_of = {(lines, size): write_script(lines, size, folder)
+                  for lines in {program.lines for program in programs} for size in SIZES}
+    texts = {program.name: os.path.join(folder, program.name) for program in programs}
+    found = {(size, program.name): ([float("inf")] * 2, "") for size in SIZES for program in programs}
+    for turn in range(runs):
+        for size in SIZES if turn < LONG_RUNS else SIZES[:-1]:
+            for program in programs:
+                took = measure(program.words, scripts_of[program.lines, size], texts[program.name])
+                least_so_far = [min(pair) for pair in zip(took, found[size, program.name][0])]
+                said = program.verdict(texts[programs[0].name], texts[program.name], size)
+                found[size, program.name] = least_so_far, said
+    return found
+
+
+def table(title, programs, runs, folder):
+    """Prints the first of the programs beside each other one, and answers the figures by size and name."""
+    found, (first, *others) = least(programs, runs, folder), programs
+    print(f"\n{title}\n\n   calls  beside       seconds  theirs  ratio        MB  theirs  ratio")
+    for size in SIZES:
+        (seconds, peak), _ = found[size, first.name]
+        if not others:
+            print(f"{size:>8}  {'nothing':<10} {seconds:>9.3f} {'':>7} {'':>6} {peak:>9.1f}")
+        for other in others:
+            (theirs, their_peak), said = found[size, other.name]
+            print(f"{size:>8}  {other.name:<10} {seconds:>9.3f} {theirs:>7.3f} {seconds / theirs:>6.2f}"
+                  f" {peak:>9.1f} {their_peak:>7.1f} {peak / their_peak:>6.2f}  {said}")
+    print(f"\nThe least of {runs} runs of each, of {min(runs, LONG_RUNS)} with {SIZES[-1]} calls, at load "
+          f"{os.getloadavg()[0]:.1f} on {os.cpu_count()} processors.\n"
+          "Growth of the time, and by the ratio of the sizes:")
+    for small, large in zip(SIZES, SIZES[1:]):
+        grown = {program.name: found[large, program.name][0][0] / found[small, program.name][0][0]
+                 for program in programs}
+        listed = ", ".join(f"{name} {times:.2f} ({times * small / large:.2f})" for name, times in grown.items())
+        aim = DECADE / 10 * large / small
+        print(f"{small} to {large}: {listed}; aim of {first.name} at most {aim:.1f}, {met(grown[first.name] <= aim)}")
+    return found
+
+
+def met(is_met):
+    return "met" if is_met else "MISSED"
+
+
+def no_verdict(_ours, _theirs, _size):
+    return ""
+
+
+def same_text(ours, theirs, _size):
+    return "same text" if filecmp.cmp(ours, theirs, shallow=False) else "TEXTS DIFFER"
+
+
+def all_rows(_ours, theirs, size):
+    with open(theirs) as file:
+        return "all rows there" if file.read() == f"{size}\n" else "ROWS ARE LACKING"
 
 
 def main():
-    program, plain, folder, runs = sys.argv[1:]
-    for lines in (10**5, 10**6):
-        path = os.path.join(folder, "script")
-        with open(path, "wb") as file:
-            file.write(script(lines, 10**5))
-        least = {}
-        for _ in range(int(runs)):
-            for name, command in (("giga", program), ("plain", plain)):
-                took = seconds(command, path, os.path.join(folder, name + ".txt"))
-                least[name] = min(took, least.get(name, took))
-        with open(os.path.join(folder, "giga.txt"), "rb") as one, open(os.path.join(folder, "plain.txt"), "rb") as two:
-            same = one.read() == two.read()
-        ratio = least["giga"] / least["plain"]
-        print(f"{lines} lines: giga {least['giga']:.3f} s, plain Rust {least['plain']:.3f} s, ratio {ratio:.2f}, "
-              f"{1e6 * least['giga'] / lines:.2f} µs a line, {'same text' if same else 'TEXTS DIFFER'}")
+    program, plain, peer, folder, runs = sys.argv[1:]
+    ctypes.CDLL(None).prctl(36, 1, 0, 0, 0)  # PR_SET_CHILD_SUBREAPER: orphans come to this process
+    # SQLite is driven by its own command line, which reads each insert as SQL and keeps table and journal in memory.
+    table("Creates through the log: distinct names, one client and one server, at most 8000 names a directory", [
+        Program("giga", [program, "solo"], scripts.creates, no_verdict),
+        Program("plain Rust", [plain, "solo"], scripts.creates, same_text),
+        Program("SQLite", ["sqlite3", ":memory:"], scripts.inserts, all_rows)], int(runs), folder)
+    words = ["solo", "--servers", "8", "--clients", "8"]
+    programs = [Program("giga", [program, *words], scripts.mixed, no_verdict)]
+    if os.access(peer, os.X_OK):
+        programs.append(Program("giga-peer", [peer, *words, "--lease", "0"], scripts.mixed, same_text))
+    else:
+        print(f"\n{peer} is missing, so the next table has nothing beside the program.")
+    found = table("Many clients and servers: create, lookup, setattr, remove by 8 clients over 8 servers, each settled",
+                  programs, int(runs), folder)
+    for what, place in (("time", 0), ("memory", 1)) if len(programs) > 1 else ():
+        most = max(found[size, "giga"][0][place] / found[size, "giga-peer"][0][place] for size in SIZES)
+        print(f"At most {most:.2f} times the {what} of giga-peer; aim at most {PEER}, {met(most <= PEER)}")
 
 
 main()

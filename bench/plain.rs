@@ -1,5 +1,6 @@
-//! The same service as `giga solo`, written plainly with std alone and with nothing proved: the yardstick of
-//! `bench/run`. It reads a script from standard input and writes its text, with the same statuses.
+//! The plain map of the stage before, with no servers, messages or logs, in plain Rust with std alone and with nothing
+//! proved: a yardstick of `bench/run`. It reads `call 1 create`, `remove` and `lookup` lines from standard input and
+//! writes the text that `giga solo` writes for them.
 use std::collections::BTreeMap;
 use std::fmt::Write as _;
 use std::io::{BufRead, BufReader, Write};
