@@ -1,5 +1,5 @@
 -- What a fuse round a disk is: the disk, how many calls still pass where it is armed, and how many it refused.
-use Rattle.std.specs.Prelude.{◌≡◌, ℕ, ◌+◌, ◌-◌, ◌^◌, min, Option, None, Some, Result, Bool, true, false, ◌==◌, MatchBool}
+use Rattle.std.specs.Prelude.{◌≡◌, ℕ, ◌+◌, ◌-◌, ◌^◌, ◌≤◌, min, Option, None, Some, Result, Bool, true, false, ◌==◌, MatchBool}
 use Rattle.mds_out.specs.declared.disk.DiskFault.{DiskFault}
 use Rattle.mds_out.specs.Past.{is_device}
 
@@ -35,3 +35,16 @@ pub record HasPassed {D : Type 0} (old new : Fused D) : Type 0 where
 -- exactly the calls after those that pass are refused
 abbrev pub IsFused : {D T : Type 0} → Fused D → Fused D → Result T DiskFault → Type 0
 IsFused old new result = MatchBool (is_blown old.left) (IsRefused old new result) (HasPassed old new)
+
+-- a fuse that is not armed, and has refused none since
+pub record IsUnarmed {D : Type 0} (old new : Fused D) : Type 0 where
+  pub left : new.left ≡ None
+  pub refused : new.refused ≡ old.refused
+
+-- What calls alone make of a fuse and its disk: the counts never fall, and a fuse that is not armed stays so and refuses
+-- none.
+pub record OutlastsBy {D : Type 0} (lasts : D → D → Type 0) (faults : D → ℕ) (old new : Fused D) : Type 0 where
+  pub inner : lasts old.inner new.inner
+  pub later : faults old.inner ≤ faults new.inner
+  pub more : old.refused ≤ new.refused
+  pub unarmed : old.left ≡ None → IsUnarmed old new

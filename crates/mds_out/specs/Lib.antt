@@ -15,3 +15,4 @@ pub mod Past
 pub mod PastLaws
 pub mod Slots
 pub mod Fused
+pub mod FusedLaws

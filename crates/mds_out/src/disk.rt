@@ -56,6 +56,9 @@ pub trait Disk {
     /// How often the disk has failed.
     ghost faults: { Self → ℕ };
 
+    /// What calls alone make of a disk: whether they may lead from the one to the other.
+    ghost lasts: { Self → Self → Type 0 };
+
     /// The length of a file. Never `OutOfMemory`.
     fn length(&mut self, file: u32) -> Result<u64, DiskFault>
         ensures short { IfOk result (λ size. size < 2 ^ 63) }
@@ -64,7 +67,8 @@ pub trait Disk {
         ensures crash { AreSame (images self.old) (images self.new) }
         ensures time { Elapses (moment self.old) (moment self.new) (images_since self.old) (images_since self.new) (images self.new) }
         ensures no_memory { IsErrOf result DiskFault.OutOfMemory → ⊥ }
-        ensures cause { HasDiskCause (faults self.old) (faults self.new) result };
+        ensures cause { HasDiskCause (faults self.old) (faults self.new) result }
+        ensures lasts { lasts self.old self.new };
 
     /// Fills `into` with the bytes of a file from `at` on. Never `OutOfMemory`. After a refusal `into` holds any bytes.
     fn read(&mut self, file: u32, at: u64, into: &mut [u8]) -> Result<(), DiskFault>
@@ -75,7 +79,8 @@ pub trait Disk {
         ensures crash { AreSame (images self.old) (images self.new) }
         ensures time { Elapses (moment self.old) (moment self.new) (images_since self.old) (images_since self.new) (images self.new) }
         ensures no_memory { IsErrOf result DiskFault.OutOfMemory → ⊥ }
-        ensures cause { HasDiskCause (faults self.old) (faults self.new) result };
+        ensures cause { HasDiskCause (faults self.old) (faults self.new) result }
+        ensures lasts { lasts self.old self.new };
 
     /// Writes over what is there, and past the end. A refused write touches its own range at most.
     fn write_at(&mut self, file: u32, at: u64, bytes: &[u8]) -> Result<(), DiskFault>
@@ -87,7 +92,8 @@ pub trait Disk {
         ensures elsewhere { IsElsewhereUnchanged file (seen self.old) (seen self.new) (sizes self.old) (sizes self.new) }
         ensures crash { Follows file (IsTorn at (length bytes.now)) (images self.old) (images self.new) }
         ensures time { Elapses (moment self.old) (moment self.new) (images_since self.old) (images_since self.new) (images self.new) }
-        ensures cause { HasDiskCause (faults self.old) (faults self.new) result };
+        ensures cause { HasDiskCause (faults self.old) (faults self.new) result }
+        ensures lasts { lasts self.old self.new };
 
     /// Cuts a file to a length. A refused cut touches the bytes from there on at most.
     fn cut(&mut self, file: u32, to: u64) -> Result<(), DiskFault>
@@ -98,7 +104,8 @@ pub trait Disk {
         ensures elsewhere { IsElsewhereUnchanged file (seen self.old) (seen self.new) (sizes self.old) (sizes self.new) }
         ensures crash { Follows file (IsShortened to) (images self.old) (images self.new) }
         ensures time { Elapses (moment self.old) (moment self.new) (images_since self.old) (images_since self.new) (images self.new) }
-        ensures cause { HasDiskCause (faults self.old) (faults self.new) result };
+        ensures cause { HasDiskCause (faults self.old) (faults self.new) result }
+        ensures lasts { lasts self.old self.new };
 
     /// After it a crash leaves of the file what a read gives. A refused sync changes no image.
     fn sync(&mut self, file: u32) -> Result<(), DiskFault>
@@ -107,7 +114,8 @@ pub trait Disk {
         ensures crash { (image : Image) → images self.new image → images self.old image }
         ensures refused { OnErr result (AreSame (images self.old) (images self.new)) }
         ensures time { Elapses (moment self.old) (moment self.new) (images_since self.old) (images_since self.new) (images self.new) }
-        ensures cause { HasDiskCause (faults self.old) (faults self.new) result };
+        ensures cause { HasDiskCause (faults self.old) (faults self.new) result }
+        ensures lasts { lasts self.old self.new };
 
     /// Brings the disk up after a crash: what it tells then reads as one of the images that a crash could have left,
     /// and each image directly after it is one of those. It tells the files that it told before. A refused restart
@@ -119,7 +127,8 @@ pub trait Disk {
         ensures unchanged { OnErr result (IsUnchanged (seen self.old) (seen self.new) (sizes self.old) (sizes self.new)) }
         ensures refused { OnErr result (AreSame (images self.old) (images self.new)) }
         ensures time { Elapses (moment self.old) (moment self.new) (images_since self.old) (images_since self.new) (images self.new) }
-        ensures cause { HasDiskCause (faults self.old) (faults self.new) result };
+        ensures cause { HasDiskCause (faults self.old) (faults self.new) result }
+        ensures lasts { lasts self.old self.new };
 
     /// A disk tells the length of each file whose bytes it tells.
     ghost tells_length: { (disk : Self) (file : ℕ) (bytes : List ℕ) → seen disk file ≡ Some bytes → sizes disk file ≡ Some (length bytes) };
@@ -132,6 +141,12 @@ pub trait Disk {
 
     /// Since this moment there is no other.
     ghost only_now: { (disk : Self) (image : Image) → images_since disk (moment disk) image → images disk image };
+
+    /// With no call at all a disk stays what it was.
+    ghost lasts_here: { (disk : Self) → lasts disk disk };
+
+    /// Two runs of calls, one after the other, are one run.
+    ghost lasts_on: { (a b c : Self) → lasts a b → lasts b c → lasts a c };
 }
 
 /// The law that ties the clauses of `Disk` to the definition of crash images: what a file's steps since its last good

@@ -3,7 +3,8 @@ ghost use Rattle.std.specs.Prelude.{◌≡◌, ◌+◌, ◌-◌, ◌*◌, ◌^�
 ghost use Rattle.mds_out.specs.Known.{OnKnown, OnTold};
 ghost use Rattle.mds_out.specs.Images.{IsTorn, IsShortened};
 ghost use Rattle.mds_out.specs.Disk.{Image, Tells, put, Shows, IsUnchanged, IsElsewhereUnchanged, AreSame, Follows, Elapses, HasDiskCause};
-ghost use Rattle.mds_out.specs.Fused.{fused_faults, is_blown, one_less, IsFused};
+ghost use Rattle.mds_out.specs.Fused.{fused_faults, is_blown, one_less, IsFused, OutlastsBy};
+ghost use Rattle.mds_out.specs.FusedLaws.{fused_here, fused_on};
 
 use crate::{Disk, DiskFault};
 use std::marker::Model;
@@ -91,6 +92,8 @@ impl<D: Disk> Disk for Fuse<D> {
 
     ghost faults = { fused_faults D.faults };
 
+    ghost lasts = { OutlastsBy D.lasts D.faults };
+
     ghost tells_length = { λ f. D.tells_length f.inner };
 
     ghost reads_as = { λ f. D.reads_as f.inner };
@@ -98,6 +101,10 @@ impl<D: Disk> Disk for Fuse<D> {
     ghost counts_now = { λ f. D.counts_now f.inner };
 
     ghost only_now = { λ f. D.only_now f.inner };
+
+    ghost lasts_here = { fused_here D.lasts D.faults D.lasts_here };
+
+    ghost lasts_on = { fused_on D.lasts D.faults D.lasts_on };
 
     fn length(&mut self, file: u32) -> Result<u64, DiskFault>
         ensures short { IfOk result (λ size. size < 2 ^ 63) }
@@ -107,6 +114,7 @@ impl<D: Disk> Disk for Fuse<D> {
         ensures time { Elapses (D.moment self.old.inner) (D.moment self.new.inner) (D.images_since self.old.inner) (D.images_since self.new.inner) (D.images self.new.inner) }
         ensures no_memory { IsErrOf result DiskFault.OutOfMemory → ⊥ }
         ensures cause { HasDiskCause (fused_faults D.faults self.old) (fused_faults D.faults self.new) result }
+        ensures lasts { OutlastsBy D.lasts D.faults self.old self.new }
         ensures fused { IsFused self.old self.new result }
     {
         if self.refuses() {
@@ -124,6 +132,7 @@ impl<D: Disk> Disk for Fuse<D> {
         ensures time { Elapses (D.moment self.old.inner) (D.moment self.new.inner) (D.images_since self.old.inner) (D.images_since self.new.inner) (D.images self.new.inner) }
         ensures no_memory { IsErrOf result DiskFault.OutOfMemory → ⊥ }
         ensures cause { HasDiskCause (fused_faults D.faults self.old) (fused_faults D.faults self.new) result }
+        ensures lasts { OutlastsBy D.lasts D.faults self.old self.new }
         ensures fused { IsFused self.old self.new result }
     {
         if self.refuses() {
@@ -142,6 +151,7 @@ impl<D: Disk> Disk for Fuse<D> {
         ensures crash { Follows file (IsTorn at (length bytes.now)) (D.images self.old.inner) (D.images self.new.inner) }
         ensures time { Elapses (D.moment self.old.inner) (D.moment self.new.inner) (D.images_since self.old.inner) (D.images_since self.new.inner) (D.images self.new.inner) }
         ensures cause { HasDiskCause (fused_faults D.faults self.old) (fused_faults D.faults self.new) result }
+        ensures lasts { OutlastsBy D.lasts D.faults self.old self.new }
         ensures fused { IsFused self.old self.new result }
     {
         if self.refuses() {
@@ -159,6 +169,7 @@ impl<D: Disk> Disk for Fuse<D> {
         ensures crash { Follows file (IsShortened to) (D.images self.old.inner) (D.images self.new.inner) }
         ensures time { Elapses (D.moment self.old.inner) (D.moment self.new.inner) (D.images_since self.old.inner) (D.images_since self.new.inner) (D.images self.new.inner) }
         ensures cause { HasDiskCause (fused_faults D.faults self.old) (fused_faults D.faults self.new) result }
+        ensures lasts { OutlastsBy D.lasts D.faults self.old self.new }
         ensures fused { IsFused self.old self.new result }
     {
         if self.refuses() {
@@ -174,6 +185,7 @@ impl<D: Disk> Disk for Fuse<D> {
         ensures refused { OnErr result (AreSame (D.images self.old.inner) (D.images self.new.inner)) }
         ensures time { Elapses (D.moment self.old.inner) (D.moment self.new.inner) (D.images_since self.old.inner) (D.images_since self.new.inner) (D.images self.new.inner) }
         ensures cause { HasDiskCause (fused_faults D.faults self.old) (fused_faults D.faults self.new) result }
+        ensures lasts { OutlastsBy D.lasts D.faults self.old self.new }
         ensures fused { IsFused self.old self.new result }
     {
         if self.refuses() {
@@ -190,6 +202,7 @@ impl<D: Disk> Disk for Fuse<D> {
         ensures refused { OnErr result (AreSame (D.images self.old.inner) (D.images self.new.inner)) }
         ensures time { Elapses (D.moment self.old.inner) (D.moment self.new.inner) (D.images_since self.old.inner) (D.images_since self.new.inner) (D.images self.new.inner) }
         ensures cause { HasDiskCause (fused_faults D.faults self.old) (fused_faults D.faults self.new) result }
+        ensures lasts { OutlastsBy D.lasts D.faults self.old self.new }
         ensures fused { IsFused self.old self.new result }
     {
         if self.refuses() {

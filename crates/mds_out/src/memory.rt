@@ -1,5 +1,5 @@
 //! Numbered files in memory, which fail and are torn as their maker said.
-ghost use Rattle.std.specs.Prelude.{◌≡◌, ◌∷◌, ◌++◌, [], ◌+◌, ◌^◌, ◌<◌, ◌≤◌, Some, length, take, drop, OnOk, OnErr, IfOk};
+ghost use Rattle.std.specs.Prelude.{◌≡◌, ◌∷◌, ◌++◌, [], ◌+◌, ◌^◌, ◌<◌, ◌≤◌, Some, length, take, drop, OnOk, OnErr, IfOk, ⊤};
 ghost use Rattle.mds_out.specs.declared.act.Act.TheVariants.{Changed, Synced, Restarted};
 ghost use Rattle.mds_out.specs.declared.change.Change.TheVariants.{Write, Cut};
 ghost use Rattle.mds_out.specs.Calls.{failed_calls};
@@ -164,6 +164,8 @@ impl Disk for Memory {
 
     ghost faults = { λ m. failed_calls m.fails m.made };
 
+    ghost lasts = { λ _ _. ⊤ };
+
     ghost tells_length = { λ m file bytes is. tells_length m.outcome m.acts file bytes is };
 
     ghost reads_as = { λ m image shows. reads_as m.outcome m.acts image shows };
@@ -171,6 +173,10 @@ impl Disk for Memory {
     ghost counts_now = { λ m t image le now. counts_now m.outcome m.acts t image le now };
 
     ghost only_now = { λ m image since. only_now m.outcome m.acts image since };
+
+    ghost lasts_here = { λ _. tt };
+
+    ghost lasts_on = { λ _ _ _ _ _. tt };
 
     fn length(&mut self, file: u32) -> Result<u64, DiskFault> {
         self.length_in(file)
