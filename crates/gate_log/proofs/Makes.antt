@@ -3,8 +3,9 @@ use Rattle.std.proofs.Common.{◌≡◌, ℕ, ◌<◌, ◌≤◌, List, length, 
 use Rattle.mds_out.specs.Disk.{Image, Elapses, Follows, LeavesOnly}
 use Rattle.mds_out.specs.Images.{IsShortened}
 use Rattle.mds_out.specs.Known.{OnTold}
-use Rattle.mds_out.proofs.Moments.{started, goes_on, leaves_weaker}
+use Rattle.mds_out.proofs.Moments.{started, goes_on, both, leaves_weaker}
 use Rattle.gate_log.specs.Calls.{IsMaking}
+use Rattle.gate_log.specs.LogState.{IsWrittenOver}
 
 module _ {D : Type 0} (moment : D → ℕ) (since : D → ℕ → Image → Type 0) (file : ℕ) where
   -- the cut
@@ -13,6 +14,12 @@ module _ {D : Type 0} (moment : D → ℕ) (since : D → ℕ → Image → Type
   cut_moment old new images images' only time follows = goes_on moment since old old new (IsMaking file images) images'
       (started moment since old (IsMaking file images) (λ image left. record { before = image; was = only image left; others = λ other apart. refl; short = omega arith })) time
       (λ image now. let from = follows image now in record { before = from.0; was = from.1; others = from.2.others; short = omega (arith, from.2.changed.no_longer) })
+
+  -- the cut, and then the closed gate
+  pub made_moment : (old mid new : D) (images images' : Image → Type 0) → LeavesOnly moment since old mid (IsMaking file images) → Follows file (IsShortened 0) images images'
+      → LeavesOnly moment since mid new (IsWrittenOver file 0 1 images') → LeavesOnly moment since old new (IsMaking file images)
+  made_moment old mid new images images' first cut second = both moment since old mid new (IsMaking file images) (IsWrittenOver file 0 1 images') (IsMaking file images) first second (λ image is. is)
+      (λ image over. let from = cut over.before over.was in record { before = from.0; was = from.1; others = λ other apart. over.changes.others other apart ∙ from.2.others other apart; short = omega (arith, from.2.changed.no_longer, over.changes.changed.no_longer) })
 
 -- a file that a crash leaves with fewer than two bytes has fewer while it is made
 pub still_short : (file : ℕ) (old : Image → Type 0) → ((image : Image) → old image → length (image file) < 2) → (image : Image) → IsMaking file old image → length (image file) < 2

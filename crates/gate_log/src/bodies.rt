@@ -32,6 +32,7 @@ pub(crate) fn body_at<D: Disk>(
     ensures any_moment { LeavesOnly D.moment D.images_since disk.old disk.new (D.images disk.old) }
     ensures refused { IfErr result (IsBodyRefusal (D.seen disk.old file) into.old.items into.new.items) }
     ensures cause { HasLogCause (D.faults disk.old) (D.faults disk.new) result }
+    ensures lasts { D.lasts disk.old disk.new }
 {
     if end - at < 6 {
         return Err(LogFault::BadLog { place: at });

@@ -86,6 +86,7 @@ impl GateLog {
         ensures elsewhere { IsElsewhereUnchanged file (D.seen disk.old) (D.seen disk.new) (D.sizes disk.old) (D.sizes disk.new) }
         ensures answer { IsDiskAnswer result }
         ensures cause { HasLogCause (D.faults disk.old) (D.faults disk.new) result }
+        ensures lasts { D.lasts disk.old disk.new }
     {
         make_file(disk, file)?;
         Ok(GateLog {
@@ -107,6 +108,7 @@ impl GateLog {
         ensures any_moment { LeavesOnly D.moment D.images_since disk.old disk.new (D.images disk.old) }
         ensures answer { IsOpenAnswer (D.seen disk.old file) result }
         ensures cause { HasLogCause (D.faults disk.old) (D.faults disk.new) result }
+        ensures lasts { D.lasts disk.old disk.new }
     {
         match find_end(disk, file)? {
             Found::End { length } => Ok(GateLog {
@@ -136,6 +138,7 @@ impl GateLog {
         ensures answer { self.old.stopped ≡ false → IsDiskAnswer result }
         ensures stops { OnErr result (self.new ≡ record self.old { stopped = true }) }
         ensures cause { HasLogCause (D.faults disk.old) (D.faults disk.new) result }
+        ensures lasts { D.lasts disk.old disk.new }
     {
         if self.stopped {
             return Err(LogFault::Stopped);
@@ -180,6 +183,7 @@ impl GateLog {
         ensures ready { self.new.stopped ≡ false → IsReady self.new (D.seen disk.new) (D.sizes disk.new) (D.images disk.new) }
         ensures refused { IfErr result (IsReplayRefusal (D.seen disk.old self.old.file) self.old self.new into.old.items into.new.items) }
         ensures cause { HasLogCause (D.faults disk.old) (D.faults disk.new) result }
+        ensures lasts { D.lasts disk.old disk.new }
     {
         if self.stopped {
             return Err(LogFault::Stopped);
@@ -222,6 +226,7 @@ fn make_file<D: Disk>(disk: &mut D, file: u32) -> Result<(), DiskFault>
     ensures any_moment { LeavesOnly D.moment D.images_since disk.old disk.new (IsMaking file (D.images disk.old)) }
     ensures elsewhere { IsElsewhereUnchanged file (D.seen disk.old) (D.seen disk.new) (D.sizes disk.old) (D.sizes disk.new) }
     ensures cause { HasDiskCause (D.faults disk.old) (D.faults disk.new) result }
+    ensures lasts { D.lasts disk.old disk.new }
 {
     disk.cut(file, 0)?;
     write_synced(disk, file, 0, &[0])
@@ -235,6 +240,7 @@ fn find_end<D: Disk>(disk: &mut D, file: u32) -> Result<Found, DiskFault>
     ensures unchanged { IsUnchanged (D.seen disk.old) (D.seen disk.new) (D.sizes disk.old) (D.sizes disk.new) }
     ensures any_moment { LeavesOnly D.moment D.images_since disk.old disk.new (D.images disk.old) }
     ensures cause { HasDiskCause (D.faults disk.old) (D.faults disk.new) result }
+    ensures lasts { D.lasts disk.old disk.new }
 {
     disk.sync(file)?;
     let size = disk.length(file)?;

@@ -26,6 +26,7 @@ pub(crate) fn write_synced<D: Disk>(
     ensures any_moment { LeavesOnly D.moment D.images_since disk.old disk.new (IsWrittenOver file at (length bytes.now) (D.images disk.old)) }
     ensures crash { (image : Image) → D.images disk.new image → IsWrittenOver file at (length bytes.now) (D.images disk.old) image }
     ensures cause { HasDiskCause (D.faults disk.old) (D.faults disk.new) result }
+    ensures lasts { D.lasts disk.old disk.new }
 {
     disk.write_at(file, at, bytes)?;
     disk.sync(file)
@@ -49,6 +50,7 @@ pub(crate) fn append_at<D: Disk>(
     ensures elsewhere { IsElsewhereUnchanged file (D.seen disk.old) (D.seen disk.new) (D.sizes disk.old) (D.sizes disk.new) }
     ensures images_elsewhere { LeavesOnly D.moment D.images_since disk.old disk.new (IsElsewhereOld file (D.images disk.old)) }
     ensures cause { HasDiskCause (D.faults disk.old) (D.faults disk.new) result }
+    ensures lasts { D.lasts disk.old disk.new }
 {
     write_synced(disk, file, end, piece.bytes())?;
     write_synced(disk, file, end - 1, &[1])

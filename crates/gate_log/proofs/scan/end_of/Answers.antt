@@ -20,5 +20,6 @@ gates-preserved g c =
       unchanged = unchanged_twice _ _ _ _ _ _ before.unchanged c.step_at.ensures.unchanged;
       same = same_twice _ _ _ before.same c.step_at.ensures.crash;
       moment = both g.D.Disk.moment g.D.Disk.images_since c.args.disk.now c.gates.disk c.step_at.new.disk (g.D.Disk.images c.args.disk.now) (g.D.Disk.images c.gates.disk) (g.D.Disk.images c.args.disk.now) before.moment c.step_at.ensures.any_moment (λ image is. is) before.same.no_other;
+      lasting = g.met.D.Disk.lasts_on _ _ _ before.lasting c.step_at.ensures.lasts;
       quiet = c.in_ok-step_at.ensures.cause.kept ∙ before.quiet;
     }
