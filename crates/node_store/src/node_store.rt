@@ -93,6 +93,8 @@ impl<D: Disk> NodeStore<D> {
         ensures same { IfOk result (λ s. D.faults s.disk ≡ D.faults disk) }
         ensures device { IfErr result (λ r. r.fault ≡ StoreFault.Device → Rose (D.faults disk) (D.faults r.disk)) }
         ensures later { IfErr result (λ r. D.faults disk ≤ D.faults r.disk) }
+        ensures lasts { IfOk result (λ s. D.lasts disk s.disk) }
+        ensures lasts_refused { IfErr result (λ r. D.lasts disk r.disk) }
     {
         let mut disk = disk;
         match open_on(alloc, &mut disk, server, setup) {
@@ -167,6 +169,7 @@ impl<D: Disk> NodeStore<D> {
         ensures same { (self.new.server ≡ self.old.server) × (self.new.setup ≡ self.old.setup) }
         ensures told { StaysTold (D.seen self.old.disk 1) (D.seen self.new.disk 1) }
         ensures cause { HasStoreCause (D.faults self.old.disk) (D.faults self.new.disk) result }
+        ensures lasts { D.lasts self.old.disk self.new.disk }
     {
         match serve_on(
             alloc,
@@ -218,6 +221,7 @@ impl<D: Disk> NodeStore<D> {
         ensures same { (self.new.server ≡ self.old.server) × (self.new.setup ≡ self.old.setup) }
         ensures told { StaysTold (D.seen self.old.disk 1) (D.seen self.new.disk 1) }
         ensures cause { HasStoreCause (D.faults self.old.disk) (D.faults self.new.disk) result }
+        ensures lasts { D.lasts self.old.disk self.new.disk }
     {
         let _room = room;
         match msgs {

@@ -47,6 +47,7 @@ pub(crate) fn open_on<D: Disk>(
     ensures refused { IfErr result (IsRefusal (IsBad server setup) (D.seen disk.old 1)) }
     ensures told { StaysTold (D.seen disk.old 1) (D.seen disk.new 1) }
     ensures cause { HasStoreCause (D.faults disk.old) (D.faults disk.new) result }
+    ensures lasts { D.lasts disk.old disk.new }
 {
     let mut log = bring_log(disk)?;
     let (mut node, mut rows) = bring_store(alloc, disk, &mut log, server, setup)?;
@@ -62,6 +63,7 @@ fn bring_log<D: Disk>(disk: &mut D) -> Result<GateLog, StoreFault>
     ensures refused { IfErr result (λ fault. (server : ℕ) → (setup : Setup) → IsRefusal (IsBad server setup) (D.seen disk.old 1) fault) }
     ensures told { StaysTold (D.seen disk.old 1) (D.seen disk.new 1) }
     ensures cause { HasStoreCause (D.faults disk.old) (D.faults disk.new) result }
+    ensures lasts { D.lasts disk.old disk.new }
 {
     if synced_length(disk)? < 2 {
         make_log(disk)
@@ -79,6 +81,7 @@ fn synced_length<D: Disk>(disk: &mut D) -> Result<u64, StoreFault>
     ensures unchanged { IsUnchanged (D.seen disk.old) (D.seen disk.new) (D.sizes disk.old) (D.sizes disk.new) }
     ensures refused { IfErr result (IsRefusal (λ place damage bytes. ⊥) (D.seen disk.old 1)) }
     ensures cause { HasStoreCause (D.faults disk.old) (D.faults disk.new) result }
+    ensures lasts { D.lasts disk.old disk.new }
 {
     match disk.sync(1) {
         Ok(()) => match disk.length(1) {
@@ -99,6 +102,7 @@ fn make_log<D: Disk>(disk: &mut D) -> Result<GateLog, StoreFault>
     ensures refused { IfErr result (IsRefusal (λ place damage bytes. ⊥) (D.seen disk.old 1)) }
     ensures told { StaysTold (D.seen disk.old 1) (D.seen disk.new 1) }
     ensures cause { HasStoreCause (D.faults disk.old) (D.faults disk.new) result }
+    ensures lasts { D.lasts disk.old disk.new }
 {
     match GateLog::create(disk, 1) {
         Ok(log) => Ok(log),
@@ -114,6 +118,7 @@ fn find_log<D: Disk>(disk: &mut D) -> Result<GateLog, StoreFault>
     ensures any_moment { LeavesOnly D.moment D.images_since disk.old disk.new (D.images disk.old) }
     ensures refused { IfErr result (λ fault. (server : ℕ) → (setup : Setup) → IsRefusal (IsBad server setup) (D.seen disk.old 1) fault) }
     ensures cause { HasStoreCause (D.faults disk.old) (D.faults disk.new) result }
+    ensures lasts { D.lasts disk.old disk.new }
 {
     match GateLog::open_file(disk, 1) {
         Ok(log) => Ok(log),
@@ -139,6 +144,7 @@ fn bring_store<D: Disk>(
     ensures refused { IfErr result (IsRefusal (IsBad server setup) (D.seen disk.old 1)) }
     ensures told { StaysTold (D.seen disk.old 1) (D.seen disk.new 1) }
     ensures cause { HasStoreCause (D.faults disk.old) (D.faults disk.new) result }
+    ensures lasts { D.lasts disk.old disk.new }
 {
     if log.length() == 1 {
         begin_log(alloc, disk, log, server, setup)
@@ -166,6 +172,7 @@ fn begin_log<D: Disk>(
     ensures refused { IfErr result (IsRefusal (λ place damage bytes. ⊥) (D.seen disk.old 1)) }
     ensures told { StaysTold (D.seen disk.old 1) (D.seen disk.new 1) }
     ensures cause { HasStoreCause (D.faults disk.old) (D.faults disk.new) result }
+    ensures lasts { D.lasts disk.old disk.new }
 {
     let head = Record::Head {
         format: 1,
@@ -197,6 +204,7 @@ fn begin_run<D: Disk>(
     ensures refused { IfErr result (IsRefusal (λ place damage bytes. ⊥) (D.seen disk.old 1)) }
     ensures told { StaysTold (D.seen disk.old 1) (D.seen disk.new 1) }
     ensures cause { HasStoreCause (D.faults disk.old) (D.faults disk.new) result }
+    ensures lasts { D.lasts disk.old disk.new }
 {
     let piece = piece(alloc, &Record::Opened)?;
     if log.length() > LONGEST {

@@ -44,6 +44,7 @@ pub(crate) fn read_log<D: Disk>(
     ensures same { OnOk result (log.new ≡ log.old) }
     ensures ready { OnOk result (IsReady log.old (D.seen disk.new) (D.sizes disk.new) (D.images disk.new)) }
     ensures cause { HasStoreCause (D.faults disk.old) (D.faults disk.new) result }
+    ensures lasts { D.lasts disk.old disk.new }
 {
     let mut body = Vec::new(alloc);
     let mut gate = read_first(alloc, disk, log, server, setup, &mut body)?;
@@ -80,6 +81,7 @@ fn read_first<D: Disk>(
     ensures same { OnOk result (log.new ≡ log.old) }
     ensures ready { OnOk result (IsReady log.old (D.seen disk.new) (D.sizes disk.new) (D.images disk.new)) }
     ensures cause { HasStoreCause (D.faults disk.old) (D.faults disk.new) result }
+    ensures lasts { D.lasts disk.old disk.new }
 {
     let Some(next) = next_body(disk, log, 0, body)? else {
         unreachable!()
@@ -122,6 +124,7 @@ fn replay_at<D: Disk>(
     ensures same { OnOk result (log.new ≡ log.old) }
     ensures ready { OnOk result (IsReady log.old (D.seen disk.new) (D.sizes disk.new) (D.images disk.new)) }
     ensures cause { HasStoreCause (D.faults disk.old) (D.faults disk.new) result }
+    ensures lasts { D.lasts disk.old disk.new }
 {
     let Some(next) = next_body(disk, log, at, body)? else {
         return Ok(None);
@@ -160,6 +163,7 @@ fn next_body<D: Disk>(
     ensures same { OnOk result (log.new ≡ log.old) }
     ensures ready { OnOk result (IsReady log.old (D.seen disk.new) (D.sizes disk.new) (D.images disk.new)) }
     ensures cause { HasStoreCause (D.faults disk.old) (D.faults disk.new) result }
+    ensures lasts { D.lasts disk.old disk.new }
 {
     match log.replay(disk, at, into) {
         Ok(next) => Ok(next),

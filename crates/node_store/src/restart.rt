@@ -43,6 +43,7 @@ fn read_whole<D: Disk>(
     ensures crash { AreSame (D.images disk.old) (D.images disk.new) }
     ensures any_moment { LeavesOnly D.moment D.images_since disk.old disk.new (D.images disk.old) }
     ensures cause { HasStoreCause (D.faults disk.old) (D.faults disk.new) result }
+    ensures lasts { D.lasts disk.old disk.new }
 {
     if log.length() <= 1 {
         return Err(StoreFault::Damaged {
@@ -72,6 +73,7 @@ fn reopened<D: Disk>(
     ensures crash { (image : Image) → D.images disk.new image → D.images disk.old image }
     ensures any_moment { LeavesOnly D.moment D.images_since disk.old disk.new (D.images disk.old) }
     ensures cause { HasStoreCause (D.faults disk.old) (D.faults disk.new) result }
+    ensures lasts { D.lasts disk.old disk.new }
 {
     if let Err(fault) = disk.restart() {
         return Err(disk_fault(fault));
@@ -117,6 +119,7 @@ impl<D: Disk> NodeStore<D> {
         ensures same { (self.new.server ≡ self.old.server) × (self.new.setup ≡ self.old.setup) }
         ensures told { StaysTold (D.seen self.old.disk 1) (D.seen self.new.disk 1) }
         ensures cause { HasStoreCause (D.faults self.old.disk) (D.faults self.new.disk) result }
+        ensures lasts { D.lasts self.old.disk self.new.disk }
     {
         let (log, node, rows) = reopened(alloc, &mut self.disk, self.server, self.setup)?;
         let kept = count_kept(log.length(), self.log.length(), &self.doubt);

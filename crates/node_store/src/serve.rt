@@ -70,6 +70,7 @@ fn append<D: Disk>(disk: &mut D, log: &mut GateLog, piece: &Piece) -> Result<(),
     ensures told { StaysTold (D.seen disk.old 1) (D.seen disk.new 1) }
     ensures answer { IsDiskAnswer result }
     ensures cause { HasLogCause (D.faults disk.old) (D.faults disk.new) result }
+    ensures lasts { D.lasts disk.old disk.new }
 {
     match log.append(disk, piece) {
         Ok(()) => Ok(()),
@@ -159,6 +160,7 @@ pub(crate) fn serve_on<D: Disk>(
     ensures disks { IfErr result AreDisks }
     ensures told { StaysTold (D.seen disk.old 1) (D.seen disk.new 1) }
     ensures cause { HasRefusalCause (D.faults disk.old) (D.faults disk.new) result }
+    ensures lasts { D.lasts disk.old disk.new }
 {
     let (handled, piece) = prepared(alloc, msg, now, log.length(), node, rows)?;
     let Some(piece) = piece else {

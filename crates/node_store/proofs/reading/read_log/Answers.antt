@@ -31,6 +31,7 @@ bodies-preserved g c =
       unchanged = unchanged_twice _ _ _ _ _ _ before.unchanged c.replay_at.ensures.unchanged;
       same = same_twice _ _ _ before.same c.replay_at.ensures.crash;
       moment = both g.D.Disk.moment g.D.Disk.images_since c.args.disk.now c.bodies.disk c.replay_at.new.disk (g.D.Disk.images c.args.disk.now) (g.D.Disk.images c.bodies.disk) (g.D.Disk.images c.args.disk.now) before.moment c.replay_at.ensures.any_moment (λ image is. is) before.same.no_other;
+      lasting = g.met.D.Disk.lasts_on _ _ _ before.lasting c.replay_at.ensures.lasts;
       quiet = c.in_ok-next.ensures.cause.kept ∙ before.quiet;
     }
 

@@ -19,6 +19,7 @@ invariant-bodies g l = record {
   unchanged : IsUnchanged (g.D.Disk.seen l.fn.disk) (g.D.Disk.seen l.disk) (g.D.Disk.sizes l.fn.disk) (g.D.Disk.sizes l.disk);
   same : AreSame (g.D.Disk.images l.fn.disk) (g.D.Disk.images l.disk);
   moment : LeavesOnly g.D.Disk.moment g.D.Disk.images_since l.fn.disk l.disk (g.D.Disk.images l.fn.disk);
+  lasting : g.D.Disk.lasts l.fn.disk l.disk;
   quiet : g.D.Disk.faults l.disk ≡ g.D.Disk.faults l.fn.disk;
 }
 
