@@ -1,6 +1,7 @@
 -- What a fuse round a disk is: the disk, how many calls still pass where it is armed, and how many it refused.
 use Rattle.std.specs.Prelude.{◌≡◌, ℕ, ◌+◌, ◌-◌, ◌^◌, ◌≤◌, min, Option, None, Some, Result, Bool, true, false, ◌==◌, MatchBool}
 use Rattle.mds_out.specs.declared.disk.DiskFault.{DiskFault}
+use Rattle.mds_out.specs.Fault.{Rose}
 use Rattle.mds_out.specs.Past.{is_device}
 
 pub record Fused (D : Type 0) : Type 0 where
@@ -48,3 +49,9 @@ pub record OutlastsBy {D : Type 0} (lasts : D → D → Type 0) (faults : D → 
   pub later : faults old.inner ≤ faults new.inner
   pub more : old.refused ≤ new.refused
   pub unarmed : old.left ≡ None → IsUnarmed old new
+
+-- Among the calls that led from the one fuse to the other one was answered `Device`: the count has risen, and where the
+-- fuse was not armed it was the disk that answered so.
+pub record FailsBy {D : Type 0} (fails : D → D → Type 0) (faults : D → ℕ) (old new : Fused D) : Type 0 where
+  pub rose : Rose (fused_faults faults old) (fused_faults faults new)
+  pub unarmed : old.left ≡ None → fails old.inner new.inner

@@ -1,4 +1,5 @@
 pub mod Fault
+pub mod FaultLaws
 pub mod Known
 pub mod Calls
 pub mod BytesIn

@@ -1,6 +1,7 @@
 //! Numbered files that a crash may leave in another state than they read.
 ghost use Rattle.std.specs.Prelude.{◌≡◌, ◌+◌, ◌-◌, ◌*◌, ◌^◌, ◌<◌, ◌≤◌, List, ℕ, Option, Some, max, length, take, drop, IfOk, OnOk, OnErr, IsErrOf, ⊤};
 ghost use Rattle.mds_out.specs.declared.disk.DiskFault.TheVariants.{OutOfMemory};
+ghost use Rattle.mds_out.specs.Fault.{Rose};
 ghost use Rattle.mds_out.specs.Known.{OnKnown, OnTold};
 ghost use Rattle.mds_out.specs.Images.{IsTorn, IsShortened, StepsGiveImages, ImagesComeByStep};
 ghost use Rattle.mds_out.specs.Disk.{Image, Tells, Contents, Lengths, put, Shows, IsUnchanged, IsElsewhereUnchanged, AreSame, Follows, Elapses, HasDiskCause};
@@ -59,6 +60,9 @@ pub trait Disk {
     /// What calls alone make of a disk: whether they may lead from the one to the other.
     ghost lasts: { Self → Self → Type 0 };
 
+    /// That among the calls that led from the one disk to the other one was answered `Device`.
+    ghost fails: { Self → Self → Type 0 };
+
     /// The length of a file. Never `OutOfMemory`.
     fn length(&mut self, file: u32) -> Result<u64, DiskFault>
         ensures short { IfOk result (λ size. size < 2 ^ 63) }
@@ -68,7 +72,8 @@ pub trait Disk {
         ensures time { Elapses (moment self.old) (moment self.new) (images_since self.old) (images_since self.new) (images self.new) }
         ensures no_memory { IsErrOf result DiskFault.OutOfMemory → ⊥ }
         ensures cause { HasDiskCause (faults self.old) (faults self.new) result }
-        ensures lasts { lasts self.old self.new };
+        ensures lasts { lasts self.old self.new }
+        ensures failed { IsErrOf result DiskFault.Device → fails self.old self.new };
 
     /// Fills `into` with the bytes of a file from `at` on. Never `OutOfMemory`. After a refusal `into` holds any bytes.
     fn read(&mut self, file: u32, at: u64, into: &mut [u8]) -> Result<(), DiskFault>
@@ -80,7 +85,8 @@ pub trait Disk {
         ensures time { Elapses (moment self.old) (moment self.new) (images_since self.old) (images_since self.new) (images self.new) }
         ensures no_memory { IsErrOf result DiskFault.OutOfMemory → ⊥ }
         ensures cause { HasDiskCause (faults self.old) (faults self.new) result }
-        ensures lasts { lasts self.old self.new };
+        ensures lasts { lasts self.old self.new }
+        ensures failed { IsErrOf result DiskFault.Device → fails self.old self.new };
 
     /// Writes over what is there, and past the end. A refused write touches its own range at most.
     fn write_at(&mut self, file: u32, at: u64, bytes: &[u8]) -> Result<(), DiskFault>
@@ -93,7 +99,8 @@ pub trait Disk {
         ensures crash { Follows file (IsTorn at (length bytes.now)) (images self.old) (images self.new) }
         ensures time { Elapses (moment self.old) (moment self.new) (images_since self.old) (images_since self.new) (images self.new) }
         ensures cause { HasDiskCause (faults self.old) (faults self.new) result }
-        ensures lasts { lasts self.old self.new };
+        ensures lasts { lasts self.old self.new }
+        ensures failed { IsErrOf result DiskFault.Device → fails self.old self.new };
 
     /// Cuts a file to a length. A refused cut touches the bytes from there on at most.
     fn cut(&mut self, file: u32, to: u64) -> Result<(), DiskFault>
@@ -105,7 +112,8 @@ pub trait Disk {
         ensures crash { Follows file (IsShortened to) (images self.old) (images self.new) }
         ensures time { Elapses (moment self.old) (moment self.new) (images_since self.old) (images_since self.new) (images self.new) }
         ensures cause { HasDiskCause (faults self.old) (faults self.new) result }
-        ensures lasts { lasts self.old self.new };
+        ensures lasts { lasts self.old self.new }
+        ensures failed { IsErrOf result DiskFault.Device → fails self.old self.new };
 
     /// After it a crash leaves of the file what a read gives. A refused sync changes no image.
     fn sync(&mut self, file: u32) -> Result<(), DiskFault>
@@ -115,7 +123,8 @@ pub trait Disk {
         ensures refused { OnErr result (AreSame (images self.old) (images self.new)) }
         ensures time { Elapses (moment self.old) (moment self.new) (images_since self.old) (images_since self.new) (images self.new) }
         ensures cause { HasDiskCause (faults self.old) (faults self.new) result }
-        ensures lasts { lasts self.old self.new };
+        ensures lasts { lasts self.old self.new }
+        ensures failed { IsErrOf result DiskFault.Device → fails self.old self.new };
 
     /// Brings the disk up after a crash: what it tells then reads as one of the images that a crash could have left,
     /// and each image directly after it is one of those. It tells the files that it told before. A refused restart
@@ -128,7 +137,8 @@ pub trait Disk {
         ensures refused { OnErr result (AreSame (images self.old) (images self.new)) }
         ensures time { Elapses (moment self.old) (moment self.new) (images_since self.old) (images_since self.new) (images self.new) }
         ensures cause { HasDiskCause (faults self.old) (faults self.new) result }
-        ensures lasts { lasts self.old self.new };
+        ensures lasts { lasts self.old self.new }
+        ensures failed { IsErrOf result DiskFault.Device → fails self.old self.new };
 
     /// A disk tells the length of each file whose bytes it tells.
     ghost tells_length: { (disk : Self) (file : ℕ) (bytes : List ℕ) → seen disk file ≡ Some bytes → sizes disk file ≡ Some (length bytes) };
@@ -147,6 +157,15 @@ pub trait Disk {
 
     /// Two runs of calls, one after the other, are one run.
     ghost lasts_on: { (a b c : Self) → lasts a b → lasts b c → lasts a c };
+
+    /// A run of calls in which one was answered `Device` stays such a run, whatever calls follow.
+    ghost fails_on: { (a b c : Self) → fails a b → lasts b c → fails a c };
+
+    /// And whatever calls went before.
+    ghost fails_after: { (a b c : Self) → lasts a b → fails b c → fails a c };
+
+    /// Where a call was answered `Device` the count has risen.
+    ghost fails_rise: { (a b : Self) → fails a b → Rose (faults a) (faults b) };
 }
 
 /// The law that ties the clauses of `Disk` to the definition of crash images: what a file's steps since its last good

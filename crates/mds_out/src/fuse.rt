@@ -3,8 +3,8 @@ ghost use Rattle.std.specs.Prelude.{◌≡◌, ◌+◌, ◌-◌, ◌*◌, ◌^�
 ghost use Rattle.mds_out.specs.Known.{OnKnown, OnTold};
 ghost use Rattle.mds_out.specs.Images.{IsTorn, IsShortened};
 ghost use Rattle.mds_out.specs.Disk.{Image, Tells, put, Shows, IsUnchanged, IsElsewhereUnchanged, AreSame, Follows, Elapses, HasDiskCause};
-ghost use Rattle.mds_out.specs.Fused.{fused_faults, is_blown, one_less, IsFused, OutlastsBy};
-ghost use Rattle.mds_out.specs.FusedLaws.{fused_here, fused_on};
+ghost use Rattle.mds_out.specs.Fused.{fused_faults, is_blown, one_less, IsFused, OutlastsBy, FailsBy};
+ghost use Rattle.mds_out.specs.FusedLaws.{fused_here, fused_on, fused_fails_on, fused_fails_after};
 
 use crate::{Disk, DiskFault};
 use std::marker::Model;
@@ -94,6 +94,8 @@ impl<D: Disk> Disk for Fuse<D> {
 
     ghost lasts = { OutlastsBy D.lasts D.faults };
 
+    ghost fails = { FailsBy D.fails D.faults };
+
     ghost tells_length = { λ f. D.tells_length f.inner };
 
     ghost reads_as = { λ f. D.reads_as f.inner };
@@ -106,6 +108,12 @@ impl<D: Disk> Disk for Fuse<D> {
 
     ghost lasts_on = { fused_on D.lasts D.faults D.lasts_on };
 
+    ghost fails_on = { fused_fails_on D.lasts D.fails D.faults D.fails_on };
+
+    ghost fails_after = { fused_fails_after D.lasts D.fails D.faults D.fails_after };
+
+    ghost fails_rise = { λ _ _ is. is.rose };
+
     fn length(&mut self, file: u32) -> Result<u64, DiskFault>
         ensures short { IfOk result (λ size. size < 2 ^ 63) }
         ensures told { IfOk result (λ size. (D.sizes self.new.inner file ≡ Some size) × OnTold (D.sizes self.old.inner file) (λ before. size ≡ before)) }
@@ -115,6 +123,7 @@ impl<D: Disk> Disk for Fuse<D> {
         ensures no_memory { IsErrOf result DiskFault.OutOfMemory → ⊥ }
         ensures cause { HasDiskCause (fused_faults D.faults self.old) (fused_faults D.faults self.new) result }
         ensures lasts { OutlastsBy D.lasts D.faults self.old self.new }
+        ensures failed { IsErrOf result DiskFault.Device → FailsBy D.fails D.faults self.old self.new }
         ensures fused { IsFused self.old self.new result }
     {
         if self.refuses() {
@@ -133,6 +142,7 @@ impl<D: Disk> Disk for Fuse<D> {
         ensures no_memory { IsErrOf result DiskFault.OutOfMemory → ⊥ }
         ensures cause { HasDiskCause (fused_faults D.faults self.old) (fused_faults D.faults self.new) result }
         ensures lasts { OutlastsBy D.lasts D.faults self.old self.new }
+        ensures failed { IsErrOf result DiskFault.Device → FailsBy D.fails D.faults self.old self.new }
         ensures fused { IsFused self.old self.new result }
     {
         if self.refuses() {
@@ -152,6 +162,7 @@ impl<D: Disk> Disk for Fuse<D> {
         ensures time { Elapses (D.moment self.old.inner) (D.moment self.new.inner) (D.images_since self.old.inner) (D.images_since self.new.inner) (D.images self.new.inner) }
         ensures cause { HasDiskCause (fused_faults D.faults self.old) (fused_faults D.faults self.new) result }
         ensures lasts { OutlastsBy D.lasts D.faults self.old self.new }
+        ensures failed { IsErrOf result DiskFault.Device → FailsBy D.fails D.faults self.old self.new }
         ensures fused { IsFused self.old self.new result }
     {
         if self.refuses() {
@@ -170,6 +181,7 @@ impl<D: Disk> Disk for Fuse<D> {
         ensures time { Elapses (D.moment self.old.inner) (D.moment self.new.inner) (D.images_since self.old.inner) (D.images_since self.new.inner) (D.images self.new.inner) }
         ensures cause { HasDiskCause (fused_faults D.faults self.old) (fused_faults D.faults self.new) result }
         ensures lasts { OutlastsBy D.lasts D.faults self.old self.new }
+        ensures failed { IsErrOf result DiskFault.Device → FailsBy D.fails D.faults self.old self.new }
         ensures fused { IsFused self.old self.new result }
     {
         if self.refuses() {
@@ -186,6 +198,7 @@ impl<D: Disk> Disk for Fuse<D> {
         ensures time { Elapses (D.moment self.old.inner) (D.moment self.new.inner) (D.images_since self.old.inner) (D.images_since self.new.inner) (D.images self.new.inner) }
         ensures cause { HasDiskCause (fused_faults D.faults self.old) (fused_faults D.faults self.new) result }
         ensures lasts { OutlastsBy D.lasts D.faults self.old self.new }
+        ensures failed { IsErrOf result DiskFault.Device → FailsBy D.fails D.faults self.old self.new }
         ensures fused { IsFused self.old self.new result }
     {
         if self.refuses() {
@@ -203,6 +216,7 @@ impl<D: Disk> Disk for Fuse<D> {
         ensures time { Elapses (D.moment self.old.inner) (D.moment self.new.inner) (D.images_since self.old.inner) (D.images_since self.new.inner) (D.images self.new.inner) }
         ensures cause { HasDiskCause (fused_faults D.faults self.old) (fused_faults D.faults self.new) result }
         ensures lasts { OutlastsBy D.lasts D.faults self.old self.new }
+        ensures failed { IsErrOf result DiskFault.Device → FailsBy D.fails D.faults self.old self.new }
         ensures fused { IsFused self.old self.new result }
     {
         if self.refuses() {

@@ -1,11 +1,13 @@
 //! Numbered files in memory, which fail and are torn as their maker said.
-ghost use Rattle.std.specs.Prelude.{◌≡◌, ◌∷◌, ◌++◌, [], ◌+◌, ◌^◌, ◌<◌, ◌≤◌, Some, length, take, drop, OnOk, OnErr, IfOk, ⊤};
+ghost use Rattle.std.specs.Prelude.{◌≡◌, ◌∷◌, ◌++◌, [], ◌+◌, ◌^◌, ◌<◌, ◌≤◌, Some, length, take, drop, OnOk, OnErr, IfOk};
 ghost use Rattle.mds_out.specs.declared.act.Act.TheVariants.{Changed, Synced, Restarted};
 ghost use Rattle.mds_out.specs.declared.change.Change.TheVariants.{Write, Cut};
 ghost use Rattle.mds_out.specs.Calls.{failed_calls};
 ghost use Rattle.mds_out.specs.Change.{change_end};
 ghost use Rattle.mds_out.specs.Content.{bytes_of};
 ghost use Rattle.mds_out.specs.Disk.{HasDiskCause};
+ghost use Rattle.mds_out.specs.Fault.{Rose};
+ghost use Rattle.mds_out.specs.FaultLaws.{same_count, no_fewer_on, rose_on, rose_after};
 ghost use Rattle.mds_out.specs.PastLaws.{tells_length, reads_as, counts_now, only_now};
 ghost use Rattle.mds_out.specs.Past.{content_of, IsPastImage, IsImageSince, IsDone, IsLooked};
 
@@ -164,7 +166,9 @@ impl Disk for Memory {
 
     ghost faults = { λ m. failed_calls m.fails m.made };
 
-    ghost lasts = { λ _ _. ⊤ };
+    ghost lasts = { λ a b. failed_calls a.fails a.made ≤ failed_calls b.fails b.made };
+
+    ghost fails = { λ a b. Rose (failed_calls a.fails a.made) (failed_calls b.fails b.made) };
 
     ghost tells_length = { λ m file bytes is. tells_length m.outcome m.acts file bytes is };
 
@@ -174,9 +178,15 @@ impl Disk for Memory {
 
     ghost only_now = { λ m image since. only_now m.outcome m.acts image since };
 
-    ghost lasts_here = { λ _. tt };
+    ghost lasts_here = { λ m. same_count (failed_calls m.fails m.made) };
 
-    ghost lasts_on = { λ _ _ _ _ _. tt };
+    ghost lasts_on = { λ a b c. no_fewer_on (failed_calls a.fails a.made) (failed_calls b.fails b.made) (failed_calls c.fails c.made) };
+
+    ghost fails_on = { λ a b c. rose_on (failed_calls a.fails a.made) (failed_calls b.fails b.made) (failed_calls c.fails c.made) };
+
+    ghost fails_after = { λ a b c. rose_after (failed_calls a.fails a.made) (failed_calls b.fails b.made) (failed_calls c.fails c.made) };
+
+    ghost fails_rise = { λ _ _ is. is };
 
     fn length(&mut self, file: u32) -> Result<u64, DiskFault> {
         self.length_in(file)
