@@ -1,5 +1,5 @@
 //! Reading one body of a log.
-ghost use Rattle.std.specs.Prelude.{◌≡◌, ◌+◌, ◌^◌, ◌<◌, List, ℕ, Some, length, IfOk, IfErr};
+ghost use Rattle.std.specs.Prelude.{◌≡◌, ◌+◌, ◌^◌, ◌<◌, List, ℕ, Some, length, IfOk, IfErr, IsErrOf};
 ghost use Rattle.gate_log.specs.Calls.{IsGateAt, IsSomeGate, IsReplayed};
 ghost use Rattle.gate_log.specs.LogState.{open_log, IsReady, HasLogCause};
 ghost use Rattle.gate_log.specs.Refusals.{IsBodyRefusal};
@@ -33,6 +33,7 @@ pub(crate) fn body_at<D: Disk>(
     ensures refused { IfErr result (IsBodyRefusal (D.seen disk.old file) into.old.items into.new.items) }
     ensures cause { HasLogCause (D.faults disk.old) (D.faults disk.new) result }
     ensures lasts { D.lasts disk.old disk.new }
+    ensures failed { IsErrOf result LogFault.Device → D.fails disk.old disk.new }
 {
     if end - at < 6 {
         return Err(LogFault::BadLog { place: at });

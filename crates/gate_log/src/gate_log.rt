@@ -1,5 +1,5 @@
 //! The log.
-ghost use Rattle.std.specs.Prelude.{◌≡◌, ◌+◌, ◌^◌, ◌<◌, ◌≤◌, ◌++◌, ◌∷◌, [], List, ℕ, Ok, Err, Some, None, true, false, length, IfOk, IfErr, OnOk, OnErr, IfSome, MatchOption};
+ghost use Rattle.std.specs.Prelude.{◌≡◌, ◌+◌, ◌^◌, ◌<◌, ◌≤◌, ◌++◌, ◌∷◌, [], List, ℕ, Ok, Err, Some, None, true, false, length, IfOk, IfErr, OnOk, OnErr, IsErrOf, IfSome, MatchOption};
 ghost use Rattle.gate_log.specs.Calls.{IsDiskAnswer, IsOpenAnswer, IsMaking, IsGateAt, IsSomeGate, IsReplayed, HasRead, ReadsOn, StaysTold};
 ghost use Rattle.gate_log.specs.Found.{IsFound};
 ghost use Rattle.gate_log.specs.Log.{IsBeforeOrAfter, HoldsOneLog, IsEitherLogOrShort, LengthsAddUp, OneMoreIsLonger, BodiesStand};
@@ -87,6 +87,7 @@ impl GateLog {
         ensures answer { IsDiskAnswer result }
         ensures cause { HasLogCause (D.faults disk.old) (D.faults disk.new) result }
         ensures lasts { D.lasts disk.old disk.new }
+        ensures failed { IsErrOf result LogFault.Device → D.fails disk.old disk.new }
     {
         make_file(disk, file)?;
         Ok(GateLog {
@@ -109,6 +110,7 @@ impl GateLog {
         ensures answer { IsOpenAnswer (D.seen disk.old file) result }
         ensures cause { HasLogCause (D.faults disk.old) (D.faults disk.new) result }
         ensures lasts { D.lasts disk.old disk.new }
+        ensures failed { IsErrOf result LogFault.Device → D.fails disk.old disk.new }
     {
         match find_end(disk, file)? {
             Found::End { length } => Ok(GateLog {
@@ -139,6 +141,7 @@ impl GateLog {
         ensures stops { OnErr result (self.new ≡ record self.old { stopped = true }) }
         ensures cause { HasLogCause (D.faults disk.old) (D.faults disk.new) result }
         ensures lasts { D.lasts disk.old disk.new }
+        ensures failed { IsErrOf result LogFault.Device → D.fails disk.old disk.new }
     {
         if self.stopped {
             return Err(LogFault::Stopped);
@@ -184,6 +187,7 @@ impl GateLog {
         ensures refused { IfErr result (IsReplayRefusal (D.seen disk.old self.old.file) self.old self.new into.old.items into.new.items) }
         ensures cause { HasLogCause (D.faults disk.old) (D.faults disk.new) result }
         ensures lasts { D.lasts disk.old disk.new }
+        ensures failed { IsErrOf result LogFault.Device → D.fails disk.old disk.new }
     {
         if self.stopped {
             return Err(LogFault::Stopped);
@@ -227,6 +231,7 @@ fn make_file<D: Disk>(disk: &mut D, file: u32) -> Result<(), DiskFault>
     ensures elsewhere { IsElsewhereUnchanged file (D.seen disk.old) (D.seen disk.new) (D.sizes disk.old) (D.sizes disk.new) }
     ensures cause { HasDiskCause (D.faults disk.old) (D.faults disk.new) result }
     ensures lasts { D.lasts disk.old disk.new }
+    ensures failed { IsErrOf result DiskFault.Device → D.fails disk.old disk.new }
 {
     disk.cut(file, 0)?;
     write_synced(disk, file, 0, &[0])
@@ -241,6 +246,7 @@ fn find_end<D: Disk>(disk: &mut D, file: u32) -> Result<Found, DiskFault>
     ensures any_moment { LeavesOnly D.moment D.images_since disk.old disk.new (D.images disk.old) }
     ensures cause { HasDiskCause (D.faults disk.old) (D.faults disk.new) result }
     ensures lasts { D.lasts disk.old disk.new }
+    ensures failed { IsErrOf result DiskFault.Device → D.fails disk.old disk.new }
 {
     disk.sync(file)?;
     let size = disk.length(file)?;

@@ -39,6 +39,7 @@ pub(crate) fn end_of<D: Disk>(disk: &mut D, file: u32, size: u64) -> Result<Foun
     ensures any_moment { LeavesOnly D.moment D.images_since disk.old disk.new (D.images disk.old) }
     ensures cause { HasDiskCause (D.faults disk.old) (D.faults disk.new) result }
     ensures lasts { D.lasts disk.old disk.new }
+    ensures failed { IsErrOf result DiskFault.Device → D.fails disk.old disk.new }
 {
     if size == 0 {
         return Ok(Found::Bad { place: 0 });
@@ -70,6 +71,7 @@ pub(crate) fn step_at<D: Disk>(
     ensures any_moment { LeavesOnly D.moment D.images_since disk.old disk.new (D.images disk.old) }
     ensures cause { HasDiskCause (D.faults disk.old) (D.faults disk.new) result }
     ensures lasts { D.lasts disk.old disk.new }
+    ensures failed { IsErrOf result DiskFault.Device → D.fails disk.old disk.new }
 {
     let mut gate = [0; 1];
     read_at(disk, file, place, &mut gate)?;
@@ -106,6 +108,7 @@ pub(crate) fn read_at<D: Disk>(
     ensures no_memory { IsErrOf result DiskFault.OutOfMemory → ⊥ }
     ensures cause { HasDiskCause (D.faults disk.old) (D.faults disk.new) result }
     ensures lasts { D.lasts disk.old disk.new }
+    ensures failed { IsErrOf result DiskFault.Device → D.fails disk.old disk.new }
 {
     disk.read(file, at, into)
 }

@@ -1,5 +1,5 @@
 //! The writes of a log, each synced before the next.
-ghost use Rattle.std.specs.Prelude.{◌≡◌, ◌+◌, ◌-◌, ◌^◌, ◌<◌, ◌≤◌, ◌++◌, ◌∷◌, [], List, ℕ, max, false, length, OnOk, OnErr, Some};
+ghost use Rattle.std.specs.Prelude.{◌≡◌, ◌+◌, ◌-◌, ◌^◌, ◌<◌, ◌≤◌, ◌++◌, ◌∷◌, [], List, ℕ, max, false, length, OnOk, OnErr, IsErrOf, Some};
 ghost use Rattle.mds_out.specs.Known.{OnKnown, OnTold};
 ghost use Rattle.mds_out.specs.Disk.{Image, Tells, put, LeavesOnly, IsElsewhereUnchanged, HasDiskCause};
 ghost use Rattle.gate_log.specs.Calls.{StaysTold};
@@ -27,6 +27,7 @@ pub(crate) fn write_synced<D: Disk>(
     ensures crash { (image : Image) → D.images disk.new image → IsWrittenOver file at (length bytes.now) (D.images disk.old) image }
     ensures cause { HasDiskCause (D.faults disk.old) (D.faults disk.new) result }
     ensures lasts { D.lasts disk.old disk.new }
+    ensures failed { IsErrOf result DiskFault.Device → D.fails disk.old disk.new }
 {
     disk.write_at(file, at, bytes)?;
     disk.sync(file)
@@ -51,6 +52,7 @@ pub(crate) fn append_at<D: Disk>(
     ensures images_elsewhere { LeavesOnly D.moment D.images_since disk.old disk.new (IsElsewhereOld file (D.images disk.old)) }
     ensures cause { HasDiskCause (D.faults disk.old) (D.faults disk.new) result }
     ensures lasts { D.lasts disk.old disk.new }
+    ensures failed { IsErrOf result DiskFault.Device → D.fails disk.old disk.new }
 {
     write_synced(disk, file, end, piece.bytes())?;
     write_synced(disk, file, end - 1, &[1])
