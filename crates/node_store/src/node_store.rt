@@ -95,6 +95,7 @@ impl<D: Disk> NodeStore<D> {
         ensures later { IfErr result (λ r. D.faults disk ≤ D.faults r.disk) }
         ensures lasts { IfOk result (λ s. D.lasts disk s.disk) }
         ensures lasts_refused { IfErr result (λ r. D.lasts disk r.disk) }
+        ensures failed { IfErr result (λ r. r.fault ≡ StoreFault.Device → D.fails disk r.disk) }
     {
         let mut disk = disk;
         match open_on(alloc, &mut disk, server, setup) {
@@ -170,6 +171,7 @@ impl<D: Disk> NodeStore<D> {
         ensures told { StaysTold (D.seen self.old.disk 1) (D.seen self.new.disk 1) }
         ensures cause { HasStoreCause (D.faults self.old.disk) (D.faults self.new.disk) result }
         ensures lasts { D.lasts self.old.disk self.new.disk }
+        ensures failed { IsErrOf result StoreFault.Device → D.fails self.old.disk self.new.disk }
     {
         match serve_on(
             alloc,
@@ -222,6 +224,7 @@ impl<D: Disk> NodeStore<D> {
         ensures told { StaysTold (D.seen self.old.disk 1) (D.seen self.new.disk 1) }
         ensures cause { HasStoreCause (D.faults self.old.disk) (D.faults self.new.disk) result }
         ensures lasts { D.lasts self.old.disk self.new.disk }
+        ensures failed { IsErrOf result StoreFault.Device → D.fails self.old.disk self.new.disk }
     {
         let _room = room;
         match msgs {

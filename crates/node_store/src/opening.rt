@@ -1,5 +1,5 @@
 //! Opening a server's disk: its log is made or read, and the new run is begun.
-ghost use Rattle.std.specs.Prelude.{◌≡◌, ◌≤◌, ◌<◌, ◌^◌, ℕ, List, ◌++◌, map, length, IfOk, IfErr, OnOk};
+ghost use Rattle.std.specs.Prelude.{◌≡◌, ◌≤◌, ◌<◌, ◌^◌, ℕ, List, ◌++◌, map, length, IfOk, IfErr, OnOk, IsErrOf};
 ghost use Rattle.mds_base.specs.declared.setup.Setup.{Setup};
 ghost use Rattle.mds_base.specs.declared.store_fault.StoreFault.{StoreFault};
 ghost use Rattle.mds_out.specs.Disk.{Image, LeavesOnly, IsUnchanged};
@@ -48,6 +48,7 @@ pub(crate) fn open_on<D: Disk>(
     ensures told { StaysTold (D.seen disk.old 1) (D.seen disk.new 1) }
     ensures cause { HasStoreCause (D.faults disk.old) (D.faults disk.new) result }
     ensures lasts { D.lasts disk.old disk.new }
+    ensures failed { IsErrOf result StoreFault.Device → D.fails disk.old disk.new }
 {
     let mut log = bring_log(disk)?;
     let (mut node, mut rows) = bring_store(alloc, disk, &mut log, server, setup)?;
@@ -64,6 +65,7 @@ fn bring_log<D: Disk>(disk: &mut D) -> Result<GateLog, StoreFault>
     ensures told { StaysTold (D.seen disk.old 1) (D.seen disk.new 1) }
     ensures cause { HasStoreCause (D.faults disk.old) (D.faults disk.new) result }
     ensures lasts { D.lasts disk.old disk.new }
+    ensures failed { IsErrOf result StoreFault.Device → D.fails disk.old disk.new }
 {
     if synced_length(disk)? < 2 {
         make_log(disk)
@@ -82,6 +84,7 @@ fn synced_length<D: Disk>(disk: &mut D) -> Result<u64, StoreFault>
     ensures refused { IfErr result (IsRefusal (λ place damage bytes. ⊥) (D.seen disk.old 1)) }
     ensures cause { HasStoreCause (D.faults disk.old) (D.faults disk.new) result }
     ensures lasts { D.lasts disk.old disk.new }
+    ensures failed { IsErrOf result StoreFault.Device → D.fails disk.old disk.new }
 {
     match disk.sync(1) {
         Ok(()) => match disk.length(1) {
@@ -103,6 +106,7 @@ fn make_log<D: Disk>(disk: &mut D) -> Result<GateLog, StoreFault>
     ensures told { StaysTold (D.seen disk.old 1) (D.seen disk.new 1) }
     ensures cause { HasStoreCause (D.faults disk.old) (D.faults disk.new) result }
     ensures lasts { D.lasts disk.old disk.new }
+    ensures failed { IsErrOf result StoreFault.Device → D.fails disk.old disk.new }
 {
     match GateLog::create(disk, 1) {
         Ok(log) => Ok(log),
@@ -119,6 +123,7 @@ fn find_log<D: Disk>(disk: &mut D) -> Result<GateLog, StoreFault>
     ensures refused { IfErr result (λ fault. (server : ℕ) → (setup : Setup) → IsRefusal (IsBad server setup) (D.seen disk.old 1) fault) }
     ensures cause { HasStoreCause (D.faults disk.old) (D.faults disk.new) result }
     ensures lasts { D.lasts disk.old disk.new }
+    ensures failed { IsErrOf result StoreFault.Device → D.fails disk.old disk.new }
 {
     match GateLog::open_file(disk, 1) {
         Ok(log) => Ok(log),
@@ -145,6 +150,7 @@ fn bring_store<D: Disk>(
     ensures told { StaysTold (D.seen disk.old 1) (D.seen disk.new 1) }
     ensures cause { HasStoreCause (D.faults disk.old) (D.faults disk.new) result }
     ensures lasts { D.lasts disk.old disk.new }
+    ensures failed { IsErrOf result StoreFault.Device → D.fails disk.old disk.new }
 {
     if log.length() == 1 {
         begin_log(alloc, disk, log, server, setup)
@@ -173,6 +179,7 @@ fn begin_log<D: Disk>(
     ensures told { StaysTold (D.seen disk.old 1) (D.seen disk.new 1) }
     ensures cause { HasStoreCause (D.faults disk.old) (D.faults disk.new) result }
     ensures lasts { D.lasts disk.old disk.new }
+    ensures failed { IsErrOf result StoreFault.Device → D.fails disk.old disk.new }
 {
     let head = Record::Head {
         format: 1,
@@ -205,6 +212,7 @@ fn begin_run<D: Disk>(
     ensures told { StaysTold (D.seen disk.old 1) (D.seen disk.new 1) }
     ensures cause { HasStoreCause (D.faults disk.old) (D.faults disk.new) result }
     ensures lasts { D.lasts disk.old disk.new }
+    ensures failed { IsErrOf result StoreFault.Device → D.fails disk.old disk.new }
 {
     let piece = piece(alloc, &Record::Opened)?;
     if log.length() > LONGEST {

@@ -1,5 +1,5 @@
 //! Reading a server's log: its head, and then body by body and record by record.
-ghost use Rattle.std.specs.Prelude.{◌≡◌, ◌+◌, ◌^◌, ◌<◌, ◌≤◌, ℕ, List, false, length, IfOk, IfErr, OnOk, IfSome, MatchOption};
+ghost use Rattle.std.specs.Prelude.{◌≡◌, ◌+◌, ◌^◌, ◌<◌, ◌≤◌, ℕ, List, false, length, IfOk, IfErr, OnOk, IsErrOf, IfSome, MatchOption};
 ghost use Rattle.mds_base.specs.declared.setup.Setup.{Setup};
 ghost use Rattle.mds_out.specs.Disk.{LeavesOnly, IsUnchanged, AreSame};
 ghost use Rattle.mds_out.specs.Known.{OnTold};
@@ -45,6 +45,7 @@ pub(crate) fn read_log<D: Disk>(
     ensures ready { OnOk result (IsReady log.old (D.seen disk.new) (D.sizes disk.new) (D.images disk.new)) }
     ensures cause { HasStoreCause (D.faults disk.old) (D.faults disk.new) result }
     ensures lasts { D.lasts disk.old disk.new }
+    ensures failed { IsErrOf result StoreFault.Device → D.fails disk.old disk.new }
 {
     let mut body = Vec::new(alloc);
     let mut gate = read_first(alloc, disk, log, server, setup, &mut body)?;
@@ -82,6 +83,7 @@ fn read_first<D: Disk>(
     ensures ready { OnOk result (IsReady log.old (D.seen disk.new) (D.sizes disk.new) (D.images disk.new)) }
     ensures cause { HasStoreCause (D.faults disk.old) (D.faults disk.new) result }
     ensures lasts { D.lasts disk.old disk.new }
+    ensures failed { IsErrOf result StoreFault.Device → D.fails disk.old disk.new }
 {
     let Some(next) = next_body(disk, log, 0, body)? else {
         unreachable!()
@@ -125,6 +127,7 @@ fn replay_at<D: Disk>(
     ensures ready { OnOk result (IsReady log.old (D.seen disk.new) (D.sizes disk.new) (D.images disk.new)) }
     ensures cause { HasStoreCause (D.faults disk.old) (D.faults disk.new) result }
     ensures lasts { D.lasts disk.old disk.new }
+    ensures failed { IsErrOf result StoreFault.Device → D.fails disk.old disk.new }
 {
     let Some(next) = next_body(disk, log, at, body)? else {
         return Ok(None);
@@ -164,6 +167,7 @@ fn next_body<D: Disk>(
     ensures ready { OnOk result (IsReady log.old (D.seen disk.new) (D.sizes disk.new) (D.images disk.new)) }
     ensures cause { HasStoreCause (D.faults disk.old) (D.faults disk.new) result }
     ensures lasts { D.lasts disk.old disk.new }
+    ensures failed { IsErrOf result StoreFault.Device → D.fails disk.old disk.new }
 {
     match log.replay(disk, at, into) {
         Ok(next) => Ok(next),

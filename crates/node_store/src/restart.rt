@@ -1,5 +1,5 @@
 //! A server that is down is brought back from what its disk gives.
-ghost use Rattle.std.specs.Prelude.{◌≡◌, ◌^◌, ◌<◌, ◌≤◌, ℕ, [], None, Some, false, nat_lt, if◌then◌else◌, take, length, IfOk, IfErr, OnOk, OnErr};
+ghost use Rattle.std.specs.Prelude.{◌≡◌, ◌^◌, ◌<◌, ◌≤◌, ℕ, [], None, Some, false, nat_lt, if◌then◌else◌, take, length, IfOk, IfErr, OnOk, OnErr, IsErrOf};
 ghost use Rattle.records.specs.Spelling.{IsHead};
 ghost use Rattle.gate_log.specs.Calls.{StaysTold};
 ghost use Rattle.gate_log.specs.LogState.{IsReady};
@@ -44,6 +44,7 @@ fn read_whole<D: Disk>(
     ensures any_moment { LeavesOnly D.moment D.images_since disk.old disk.new (D.images disk.old) }
     ensures cause { HasStoreCause (D.faults disk.old) (D.faults disk.new) result }
     ensures lasts { D.lasts disk.old disk.new }
+    ensures failed { IsErrOf result StoreFault.Device → D.fails disk.old disk.new }
 {
     if log.length() <= 1 {
         return Err(StoreFault::Damaged {
@@ -74,6 +75,7 @@ fn reopened<D: Disk>(
     ensures any_moment { LeavesOnly D.moment D.images_since disk.old disk.new (D.images disk.old) }
     ensures cause { HasStoreCause (D.faults disk.old) (D.faults disk.new) result }
     ensures lasts { D.lasts disk.old disk.new }
+    ensures failed { IsErrOf result StoreFault.Device → D.fails disk.old disk.new }
 {
     if let Err(fault) = disk.restart() {
         return Err(disk_fault(fault));
@@ -120,6 +122,7 @@ impl<D: Disk> NodeStore<D> {
         ensures told { StaysTold (D.seen self.old.disk 1) (D.seen self.new.disk 1) }
         ensures cause { HasStoreCause (D.faults self.old.disk) (D.faults self.new.disk) result }
         ensures lasts { D.lasts self.old.disk self.new.disk }
+        ensures failed { IsErrOf result StoreFault.Device → D.fails self.old.disk self.new.disk }
     {
         let (log, node, rows) = reopened(alloc, &mut self.disk, self.server, self.setup)?;
         let kept = count_kept(log.length(), self.log.length(), &self.doubt);

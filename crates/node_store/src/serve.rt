@@ -11,7 +11,7 @@ ghost use Rattle.mds_out.specs.Known.{OnTold};
 ghost use Rattle.node_core.specs.Nodes.{StoreV, has_numbers};
 ghost use Rattle.node_core.specs.Serving.{serve, IsServed, replayed_all};
 ghost use Rattle.node_store.specs.Parts.{IsNodeOf, OfEach, OfEachBody};
-ghost use Rattle.node_store.specs.Refused.{AreDisks, InDoubt, HasRefusalCause};
+ghost use Rattle.node_store.specs.Refused.{AreDisks, InDoubt, IsDevice, HasRefusalCause};
 ghost use Rattle.node_store.specs.Serve.{IsMessage};
 ghost use Rattle.node_store.specs.Stands.{IsBody};
 ghost use Rattle.node_store.specs.Store.{IsKept, LeavesDoubt, StandsForEither};
@@ -71,6 +71,7 @@ fn append<D: Disk>(disk: &mut D, log: &mut GateLog, piece: &Piece) -> Result<(),
     ensures answer { IsDiskAnswer result }
     ensures cause { HasLogCause (D.faults disk.old) (D.faults disk.new) result }
     ensures lasts { D.lasts disk.old disk.new }
+    ensures failed { IsErrOf result LogFault.Device → D.fails disk.old disk.new }
 {
     match log.append(disk, piece) {
         Ok(()) => Ok(()),
@@ -161,6 +162,7 @@ pub(crate) fn serve_on<D: Disk>(
     ensures told { StaysTold (D.seen disk.old 1) (D.seen disk.new 1) }
     ensures cause { HasRefusalCause (D.faults disk.old) (D.faults disk.new) result }
     ensures lasts { D.lasts disk.old disk.new }
+    ensures failed { IfErr result (λ refusal. IsDevice refusal → D.fails disk.old disk.new) }
 {
     let (handled, piece) = prepared(alloc, msg, now, log.length(), node, rows)?;
     let Some(piece) = piece else {
