@@ -29,3 +29,5 @@ pub mod Changing
 pub mod Handing
 pub mod Reviving
 pub mod Making
+pub mod Licensing
+pub mod Paying

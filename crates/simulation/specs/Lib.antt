@@ -1,6 +1,7 @@
 pub mod Calls
 pub mod Entries
 pub mod Fuses
+pub mod Licences
 pub mod Openings
 pub mod Ranges
 pub mod Runs

@@ -4,7 +4,7 @@ ghost use Rattle.mds_base.specs.declared.store_fault.StoreFault.TheVariants as S
 ghost use Rattle.std.specs.FinSet as set;
 ghost use Rattle.std.specs.List.{slice_get};
 ghost use Rattle.mds_out.specs.Fault.{Rose};
-ghost use Rattle.mds_out.specs.Fused.{fused_faults};
+ghost use Rattle.mds_out.specs.Fused.{fused_faults, OutlastsBy, FailsBy};
 ghost use Rattle.node_core.specs.Nodes.{StoreV};
 ghost use Rattle.node_store.specs.Reading.{IsRefusal};
 ghost use Rattle.node_store.specs.Store.{IsDownAt};
@@ -14,6 +14,7 @@ ghost use Rattle.world.specs.declared.event.StopCause.TheVariants as StopCause;
 ghost use Rattle.simulation.specs.Calls.{CanServe, CanMiss, Serves, Restarts, RoseAt, OthersStay, faults_at};
 ghost use Rattle.simulation.specs.Entries.{change_of, changes_of, looked, lookup_of, with_one, ended_by};
 ghost use Rattle.simulation.specs.Fuses.{seen_by, images_by};
+ghost use Rattle.simulation.specs.Licences.{AreLicensed, none_at, stops_of_serve, stops_of_restart};
 ghost use Rattle.simulation.specs.Runs.{RunV};
 ghost use Rattle.simulation.specs.Shows.{Happens, Shows, StaysNear, server_for, waiting_cmp};
 ghost use Rattle.simulation.specs.Shows as shown;
@@ -59,6 +60,7 @@ impl<D: Disk> Simulation<D> {
         ensures ok { IfOk result (λ served. (server : ℕ) → server_for (slice_get self.old.sent place) ≡ Some server → Serves (seen_by D.seen) (images_by D.images) self.old self.new server place served) }
         ensures err { OnErr result (StaysNear (seen_by D.seen) (images_by D.images) self.old self.new) }
         ensures rose { (server : ℕ) → server_for (slice_get self.old.sent place) ≡ Some server → result ≡ Ok Served.Stopped → RoseAt (fused_faults D.faults) self.old self.new server }
+        ensures licensed { (server : ℕ) → server_for (slice_get self.old.sent place) ≡ Some server → AreLicensed D.faults self.old.stores self.new.stores (stops_of_serve result server) none_at }
         ensures others { (server : ℕ) → server_for (slice_get self.old.sent place) ≡ Some server → OthersStay self.old self.new server }
         ensures setup { self.new.setup ≡ self.old.setup }
     {
@@ -101,6 +103,7 @@ impl<D: Disk> Simulation<D> {
         requires up { (server < self.old.setup.servers) × (shown.is_up self.old server ≡ true) }
         ensures happens { Happens (seen_by D.seen) (images_by D.images) self.old self.new (Event.Stop server StopCause.Asked) }
         ensures faults { faults_at (fused_faults D.faults) self.new server ≡ faults_at (fused_faults D.faults) self.old server }
+        ensures licensed { AreLicensed D.faults self.old.stores self.new.stores none_at none_at }
         ensures others { OthersStay self.old self.new server }
         ensures sent { self.new.sent ≡ self.old.sent }
         ensures setup { self.new.setup ≡ self.old.setup }
@@ -119,6 +122,7 @@ impl<D: Disk> Simulation<D> {
 
         // Where a run is shown, it is refused for want of memory alone.
         ensures fault { IfErr result (λ fault. (run : RunV) → Shows (seen_by D.seen) (images_by D.images) self.old run → fault ≡ StoreFault.OutOfMemory) }
+        ensures licensed { AreLicensed D.faults self.old.stores self.new.stores (stops_of_restart result server) none_at }
         ensures others { OthersStay self.old self.new server }
         ensures sent { self.new.sent ≡ self.old.sent }
         ensures setup { self.new.setup ≡ self.old.setup }
@@ -164,6 +168,9 @@ fn revive<D: Disk>(
     ensures sound { IfErr result (λ fault. (owed : StoreV) → IsDownAt (seen_by D.seen) (images_by D.images) store.old owed → IsRefusal (λ _ _ _. ⊥) (D.seen store.new.disk.inner 1) fault) }
     ensures same { (store.new.server ≡ store.old.server) × (store.new.setup ≡ store.old.setup) }
     ensures rose { IsErrOf result StoreFault.Device → Rose (fused_faults D.faults store.old.disk) (fused_faults D.faults store.new.disk) }
+    ensures down { OnErr result (store.new.up ≡ None) }
+    ensures lasts { OutlastsBy D.lasts D.faults store.old.disk store.new.disk }
+    ensures failed { IsErrOf result StoreFault.Device → FailsBy D.fails D.faults store.old.disk store.new.disk }
 {
     let made = changes(alloc, store.doubt())?;
     match store.restart(alloc, moment) {

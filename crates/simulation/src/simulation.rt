@@ -7,6 +7,7 @@ ghost use Rattle.world.specs.declared.event.Event.TheVariants as Event;
 ghost use Rattle.world.specs.Events.{is_for_client};
 ghost use Rattle.simulation.specs.Calls.{armed};
 ghost use Rattle.simulation.specs.Fuses.{seen_by, images_by};
+ghost use Rattle.simulation.specs.Licences.{AreLicensed, none_at, once_at};
 ghost use Rattle.simulation.specs.Shows.{Happens, ShowsSame, client_at, server_for, stands_in};
 ghost use Rattle.simulation.specs.Shows as shown;
 
@@ -187,6 +188,7 @@ impl<D: Disk> Simulation<D> {
         requires { server < self.old.setup.servers }
         ensures setup { self.new.setup ≡ self.old.setup }
         ensures same { ShowsSame (seen_by D.seen) (images_by D.images) self.old self.new }
+        ensures licensed { AreLicensed D.faults self.old.stores self.new.stores none_at (once_at server) }
         ensures after { (store : Store (Fused D)) → slice_get self.old.stores server ≡ Some store → self.new ≡ record self.old { stores = slice_set self.old.stores server (armed store calls) } }
     {
         self.stores[server as usize].arm(calls);

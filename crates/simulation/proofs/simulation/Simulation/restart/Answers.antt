@@ -5,6 +5,8 @@ use Rattle.simulation.specs.Fuses.{seen_by, images_by}
 use Rattle.simulation.specs.Shows.{SimulationV}
 use Rattle.simulation.proofs.Changing.{on_err, ranged_store, ranged_more, others_stay, rose_at}
 use Rattle.simulation.proofs.Reviving.{down_at, mended_still, mended_down, mended_faults, revived_on, still_after, revive_done, revive_unmade, revive_failed, revive_refused, refused_memory}
+use Rattle.simulation.proofs.Licensing.{quiet_licensed, stop_licensed}
+use Rattle.simulation.proofs.Paying.{restart_quiet, restart_stop, refused_restarts, restart_unstopped}
 use Rattle.simulation.proofs.simulation.Simulation.restart.Goals as goal
 
 pub invariant_of-self : goal.invariant_of-self
@@ -21,6 +23,13 @@ returns-in_err-append-in-Ok-clause-err g c =
 
 pub returns-in_err-append-in-Ok-clause-others : goal.returns-in_err-append-in-Ok-clause-others
 returns-in_err-append-in-Ok-clause-others g c = others_stay _ _ c.args.server c.revive.new.store c.self.view_is
+
+pub returns-in_err-append-in-Ok-clause-licensed : goal.returns-in_err-append-in-Ok-clause-licensed
+returns-in_err-append-in-Ok-clause-licensed g c =
+    let s = down_at _ _ c.args.server c.index_mut-store.result.now c.self.view_is c.requires.down c.self.invariant.0.stores' c.index_mut-store.ensures.value in
+    restart_unstopped g.D.Disk.faults _ _ _ (refused_restarts _ c.from_residual.result c.from_residual.ensures.1 c.args.server)
+    (quiet_licensed g.D.Disk.faults _ _ c.args.server c.index_mut-store.result.now c.revive.new.store c.self.view_is s.is
+    (restart_quiet g.D.Disk.lasts g.D.Disk.fails g.D.Disk.faults c.index_mut-store.result.now c.mend.new.self c.revive.new.store c.mend.ensures c.revive.ensures.lasts))
 
 pub invariant_of-self-in-Ok : goal.invariant_of-self-in-Ok
 invariant_of-self-in-Ok g c =
@@ -51,6 +60,12 @@ returns-in_ok-append-in-Ok-clause-ok g c =
 pub returns-in_ok-append-in-Ok-clause-others : goal.returns-in_ok-append-in-Ok-clause-others
 returns-in_ok-append-in-Ok-clause-others g c = others_stay _ _ c.args.server c.revive.new.store c.self.view_is
 
+pub returns-in_ok-append-in-Ok-clause-licensed : goal.returns-in_ok-append-in-Ok-clause-licensed
+returns-in_ok-append-in-Ok-clause-licensed g c =
+    let s = down_at _ _ c.args.server c.index_mut-store.result.now c.self.view_is c.requires.down c.self.invariant.0.stores' c.index_mut-store.ensures.value in
+    quiet_licensed g.D.Disk.faults _ _ c.args.server c.index_mut-store.result.now c.revive.new.store c.self.view_is s.is
+    (restart_quiet g.D.Disk.lasts g.D.Disk.fails g.D.Disk.faults c.index_mut-store.result.now c.mend.new.self c.revive.new.store c.mend.ensures c.revive.ensures.lasts)
+
 pub returns-in-Device-clause-ok : goal.returns-in-Device-clause-ok
 returns-in-Device-clause-ok g c =
     let s = down_at _ _ c.args.server c.index_mut-store.result.now c.self.view_is c.requires.down c.self.invariant.0.stores' c.index_mut-store.ensures.value in
@@ -66,6 +81,13 @@ returns-in-Device-clause-rose g c =
 pub returns-in-Device-clause-others : goal.returns-in-Device-clause-others
 returns-in-Device-clause-others g c = others_stay _ _ c.args.server c.revive.new.store c.self.view_is
 
+pub returns-in-Device-clause-licensed : goal.returns-in-Device-clause-licensed
+returns-in-Device-clause-licensed g c =
+    let s = down_at _ _ c.args.server c.index_mut-store.result.now c.self.view_is c.requires.down c.self.invariant.0.stores' c.index_mut-store.ensures.value in
+    let device = c.in-Err.is ∙ ap Err c.in-Device.is in
+    stop_licensed g.D.Disk.faults _ _ c.args.server c.index_mut-store.result.now c.revive.new.store c.self.view_is s.is
+    (restart_stop g.D.Disk.lasts g.D.Disk.fails g.D.Disk.faults c.index_mut-store.result.now c.mend.new.self c.revive.new.store c.mend.ensures c.revive.ensures.lasts g.met.D.Disk.fails_rise c.in-Err.ensures.down (c.revive.ensures.failed device))
+
 pub returns-in_default-clause-err : goal.returns-in_default-clause-err
 returns-in_default-clause-err g c =
     let s = down_at _ _ c.args.server c.index_mut-store.result.now c.self.view_is c.requires.down c.self.invariant.0.stores' c.index_mut-store.ensures.value in
@@ -80,3 +102,9 @@ returns-in_default-clause-fault g c =
 
 pub returns-in_default-clause-others : goal.returns-in_default-clause-others
 returns-in_default-clause-others g c = others_stay _ _ c.args.server c.revive.new.store c.self.view_is
+
+pub returns-in_default-clause-licensed : goal.returns-in_default-clause-licensed
+returns-in_default-clause-licensed g c =
+    let s = down_at _ _ c.args.server c.index_mut-store.result.now c.self.view_is c.requires.down c.self.invariant.0.stores' c.index_mut-store.ensures.value in
+    quiet_licensed g.D.Disk.faults _ _ c.args.server c.index_mut-store.result.now c.revive.new.store c.self.view_is s.is
+    (restart_quiet g.D.Disk.lasts g.D.Disk.fails g.D.Disk.faults c.index_mut-store.result.now c.mend.new.self c.revive.new.store c.mend.ensures c.revive.ensures.lasts)

@@ -1,10 +1,11 @@
-use Rattle.std.proofs.Common.{◌∙◌, sym, subst, ap, Err, refl, ◌<◌, ◌^◌}
+use Rattle.std.proofs.Common.{◌∙◌, sym, subst, ap, Ok, Err, alloc_error, refl, ◌<◌, ◌^◌}
 use Rattle.std.specs.List.{slice_get}
 use Rattle.mds_out.specs.Fused.{Fused, fused_faults}
 use Rattle.simulation.specs.Fuses.{seen_by, images_by}
 use Rattle.simulation.specs.Shows.{SimulationV}
 use Rattle.simulation.proofs.Changing.{on_err, ranged_store, ranged_unsent, ranged_more, sent_served}
 use Rattle.simulation.proofs.Handing.{serving, serves_place, one_message, served_store, went_down, serve_done, serve_unsent, serve_stopped, serve_refused, serves_done, serves_stopped, others_for, rose_for}
+use Rattle.simulation.proofs.Paying.{done_stops, refused_stops, serve_quiet, serve_stop, serve_unstopped, serve_paid}
 use Rattle.simulation.proofs.simulation.Simulation.serve.Goals as goal
 
 pub serve_batch-requires-clause-up : goal.serve_batch-requires-clause-up
@@ -38,6 +39,12 @@ returns-in_err-served-in-Ok-clause-others g c =
     let s = serving _ _ c.args.place c.in-Some.server c.index_mut.result.now c.self.view_is c.requires.message c.in-Some.ensures.value c.index_mut.ensures.value in
     others_for _ _ c.in-Some.server c.args.place c.index_mut.result.now c.self.view_is s c.serve_batch.new.self
 
+pub returns-in_err-served-in-Ok-clause-licensed : goal.returns-in_err-served-in-Ok-clause-licensed
+returns-in_err-served-in-Ok-clause-licensed g c =
+    let s = serving _ _ c.args.place c.in-Some.server c.index_mut.result.now c.self.view_is c.requires.message c.in-Some.ensures.value c.index_mut.ensures.value in
+    serve_unstopped g.D.Disk.faults _ _ c.in-Some.server c.args.place c.index_mut.result.now c.serve_batch.new.self c.self.view_is s c.from_residual.result (refused_stops c.from_residual.result c.in_err-served-in-Ok.field-0.0 c.from_residual.ensures.1)
+    (serve_quiet g.D.Disk.lasts g.D.Disk.fails g.D.Disk.faults c.index_mut.result.now c.serve_batch.new.self s.up s.to.up' c.serve_batch.ensures.lasts)
+
 pub invariant_of-self-in-Ok : goal.invariant_of-self-in-Ok
 invariant_of-self-in-Ok g c =
     let s = serving _ _ c.args.place c.in-Some.server c.index_mut.result.now c.self.view_is c.requires.message c.in-Some.ensures.value c.index_mut.ensures.value in
@@ -66,6 +73,12 @@ returns-in_ok-served-in-Ok-clause-others g c =
     let s = serving _ _ c.args.place c.in-Some.server c.index_mut.result.now c.self.view_is c.requires.message c.in-Some.ensures.value c.index_mut.ensures.value in
     others_for _ _ c.in-Some.server c.args.place c.index_mut.result.now c.self.view_is s c.serve_batch.new.self
 
+pub returns-in_ok-served-in-Ok-clause-licensed : goal.returns-in_ok-served-in-Ok-clause-licensed
+returns-in_ok-served-in-Ok-clause-licensed g c =
+    let s = serving _ _ c.args.place c.in-Some.server c.index_mut.result.now c.self.view_is c.requires.message c.in-Some.ensures.value c.index_mut.ensures.value in
+    serve_unstopped g.D.Disk.faults _ _ c.in-Some.server c.args.place c.index_mut.result.now c.serve_batch.new.self c.self.view_is s (Ok c.in_ok-served-in-Ok.served) (done_stops c.in-Ok.handled.outputs _ c.in_ok-served-in-Ok.served c.in_ok-served-in-Ok.ensures.served)
+    (serve_quiet g.D.Disk.lasts g.D.Disk.fails g.D.Disk.faults c.index_mut.result.now c.serve_batch.new.self s.up s.to.up' c.serve_batch.ensures.lasts)
+
 pub invariant_of-self-in-Device : goal.invariant_of-self-in-Device
 invariant_of-self-in-Device g c =
     let s = serving _ _ c.args.place c.in-Some.server c.index_mut.result.now c.self.view_is c.requires.message c.in-Some.ensures.value c.index_mut.ensures.value in
@@ -93,6 +106,13 @@ returns-in-Device-clause-others g c =
     let s = serving _ _ c.args.place c.in-Some.server c.index_mut.result.now c.self.view_is c.requires.message c.in-Some.ensures.value c.index_mut.ensures.value in
     others_for _ _ c.in-Some.server c.args.place c.index_mut.result.now c.self.view_is s c.serve_batch.new.self
 
+pub returns-in-Device-clause-licensed : goal.returns-in-Device-clause-licensed
+returns-in-Device-clause-licensed g c =
+    let s = serving _ _ c.args.place c.in-Some.server c.index_mut.result.now c.self.view_is c.requires.message c.in-Some.ensures.value c.index_mut.ensures.value in
+    let device = c.in-Err.is ∙ ap Err c.in-Device.is in
+    serve_paid g.D.Disk.faults _ _ c.in-Some.server c.args.place c.index_mut.result.now c.serve_batch.new.self c.self.view_is s
+    (serve_stop g.D.Disk.lasts g.D.Disk.fails g.D.Disk.faults g.met.D.Disk.fails_rise c.index_mut.result.now c.serve_batch.new.self s.up s.to.up' (c.serve_batch.ensures.down device) c.serve_batch.ensures.lasts (c.serve_batch.ensures.failed device))
+
 pub invariant_of-self-in_default-fault : goal.invariant_of-self-in_default-fault
 invariant_of-self-in_default-fault g c =
     let s = serving _ _ c.args.place c.in-Some.server c.index_mut.result.now c.self.view_is c.requires.message c.in-Some.ensures.value c.index_mut.ensures.value in
@@ -108,3 +128,9 @@ pub returns-in_default-fault-clause-others : goal.returns-in_default-fault-claus
 returns-in_default-fault-clause-others g c =
     let s = serving _ _ c.args.place c.in-Some.server c.index_mut.result.now c.self.view_is c.requires.message c.in-Some.ensures.value c.index_mut.ensures.value in
     others_for _ _ c.in-Some.server c.args.place c.index_mut.result.now c.self.view_is s c.serve_batch.new.self
+
+pub returns-in_default-fault-clause-licensed : goal.returns-in_default-fault-clause-licensed
+returns-in_default-fault-clause-licensed g c =
+    let s = serving _ _ c.args.place c.in-Some.server c.index_mut.result.now c.self.view_is c.requires.message c.in-Some.ensures.value c.index_mut.ensures.value in
+    serve_unstopped g.D.Disk.faults _ _ c.in-Some.server c.args.place c.index_mut.result.now c.serve_batch.new.self c.self.view_is s (Err alloc_error) (λ k. refl)
+    (serve_quiet g.D.Disk.lasts g.D.Disk.fails g.D.Disk.faults c.index_mut.result.now c.serve_batch.new.self s.up s.to.up' c.serve_batch.ensures.lasts)

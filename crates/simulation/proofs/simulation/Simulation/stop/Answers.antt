@@ -6,6 +6,7 @@ use Rattle.node_store.specs.Store.{Store}
 use Rattle.simulation.specs.Fuses.{seen_by, images_by}
 use Rattle.simulation.specs.Shows.{SimulationV}
 use Rattle.simulation.proofs.Changing.{up_store, halted, ranged_more, others_stay, faults_same}
+use Rattle.simulation.proofs.Licensing.{licensed_halted, quiet_licensed}
 use Rattle.simulation.proofs.Showing.{happens_from}
 use Rattle.simulation.proofs.Stopping.{halt_happens}
 use Rattle.simulation.proofs.simulation.Simulation.stop.Goals as goal
@@ -39,3 +40,8 @@ returns-clause-faults g c =
 
 pub returns-clause-others : goal.returns-clause-others
 returns-clause-others g c = others_stay _ _ c.args.server c.halt.new.self c.self.view_is
+
+pub returns-clause-licensed : goal.returns-clause-licensed
+returns-clause-licensed g c =
+    let s = up_store _ _ c.args.server c.index_mut.result.now c.self.view_is c.requires.up.1 c.index_mut.ensures.value in
+    quiet_licensed g.D.Disk.faults _ _ c.args.server c.index_mut.result.now c.halt.new.self c.self.view_is s.is (licensed_halted g.D.Disk.faults c.index_mut.result.now c.halt.new.self c.halt.ensures.stopped)
