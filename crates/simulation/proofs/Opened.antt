@@ -1,5 +1,5 @@
 -- What bringing up one server says of its disk.
-use Rattle.std.proofs.Common.{◌≡◌, sym, subst, refl, ℕ, ◌≤◌, true, false, List, [], ◌++◌, Option, Some, None, is_some}
+use Rattle.std.proofs.Common.{◌≡◌, sym, subst, refl, ℕ, ◌≤◌, true, false, List, [], ◌++◌, Option, Some, None, is_some, arith}
 use Rattle.std.specs.Prelude.{map as list_map}
 use Rattle.mds_base.specs.declared.setup.Setup.{Setup}
 use Rattle.mds_base.specs.declared.store_fault.StoreFault.{StoreFault}
@@ -12,7 +12,7 @@ use Rattle.node_core.specs.Nodes.{StoreV}
 use Rattle.node_store.specs.Stands.{FileStandsFor, opened_store}
 use Rattle.node_store.specs.Reading.{IsRefusal, IsBad}
 use Rattle.node_store.specs.Store.{Store, KeepsAny, StandsForAny, LeavesOpened}
-use Rattle.simulation.specs.Openings.{IsHandedBack, IsUpOn, IsOpenFault}
+use Rattle.simulation.specs.Openings.{IsHandedBack, IsUpOn, IsCounted, IsOpenFault}
 
 tells_still : (old new : Option (List ℕ)) → Tells old new (λ before now. Unit {0}) → is_some old ≡ true → is_some new ≡ true
 tells_still None new stays some = absurd (let n : false ≡ true = some in cc)
@@ -50,3 +50,9 @@ pub fused_up : {D : Type 0} (seen : D → Contents) (images : D → Image → Ty
     → IsUpOn seen images setup s old fused
 fused_up seen images setup s old store fused is named sure opened back =
     subst (IsUpOn seen images setup s old) (sym is) (record { server = named.0; setup' = named.1; sure = sure; opened = opened; back = back })
+
+-- no call of which failed
+pub fused_counted : {D : Type 0} (faults : D → ℕ) (old : D) (store : Store D) (fused : Store (Fused D))
+    → fused ≡ record { disk = record { inner = store.disk; left = None; refused = 0 }; server = store.server; setup = store.setup; log = store.log; up = store.up; doubt = store.doubt }
+    → faults store.disk ≡ faults old → IsCounted faults old fused
+fused_counted faults old store fused is same = subst (IsCounted faults old) (sym is) (omega (arith, same), refl)

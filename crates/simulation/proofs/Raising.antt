@@ -10,7 +10,8 @@ use Rattle.mds_out.specs.Fused.{Fused}
 use Rattle.node_core.specs.Nodes.{StoreV}
 use Rattle.node_store.specs.Stands.{opened_store}
 use Rattle.node_store.specs.Store.{Store, StandsForAny}
-use Rattle.simulation.specs.Openings.{Paired, IsUpOn, IsDiskOf, IsHandedBack, IsOpenFault, IsNotOpened}
+use Rattle.world.proofs.Grow.{get_pushed}
+use Rattle.simulation.specs.Openings.{Paired, IsUpOn, IsCounted, AreCounted, IsDiskOf, IsHandedBack, IsOpenFault, IsNotOpened}
 use Rattle.simulation.proofs.Giving.{opened_back}
 use Rattle.simulation.proofs.Pairs.{paired_push, paired_join, paired_length, paired_self}
 
@@ -51,6 +52,25 @@ module _ {D : Type 0} (seen : D → Contents) (images : D → Image → Type 0) 
   pub raised_count : (left : List D) (server : ℕ) (stores : List (Store (Fused D))) → AreRaised seen images setup disks left server stores → length stores ≡ server
   raised_count left server stores so = paired_length (IsUpOn seen images setup) 0 so.done stores so.up ∙ sym so.count
 
+get_next : {X : Type 0} (xs : List X) (x : X) (zs : List X) → slice_get (xs ++ x ∷ zs) (length xs) ≡ Some x
+get_next [] x zs = refl
+get_next (y ∷ xs) x zs = get_next xs x zs
+
+same_value : {X : Type 0} (x y : X) → Some x ≡ Some y → x ≡ y
+same_value x y e = cc
+
+-- The counts of the disks
+
+pub counted_one : {D : Type 0} (seen : D → Contents) (images : D → Image → Type 0) (setup : Setup) (disks left rest : List D) (server : ℕ) (stores more : List (Store (Fused D))) (disk : D) (store : Store (Fused D)) → AreRaised seen images setup disks left server stores → left ≡ disk ∷ rest
+    → (faults : D → ℕ) → AreCounted faults disks stores → IsCounted faults disk store → more ≡ stores ++ store ∷ [] → AreCounted faults disks more
+counted_one seen images setup disks left rest server stores more disk store so first faults all one pushed s x y there is = elim (get_pushed stores store s y (ap (λ l. slice_get l s) (sym pushed) ∙ is)) [
+  | inl h ↦ all s x y there h
+  | inr h ↦
+      let at : slice_get disks s ≡ Some disk =
+      ap (slice_get disks) (h.0 ∙ raised_count seen images setup disks left server stores so ∙ so.count) ∙ ap (λ d. slice_get d (length so.done)) (sym so.split ∙ ap (λ l. so.done ++ l) first) ∙ get_next so.done disk rest in
+      subst (IsCounted faults x) h.1 (subst (λ v. IsCounted faults v store) (same_value disk x (sym at ∙ there)) one)
+]
+
 -- The disks where a server was refused
 
 any_front : (s : ℕ) (setup : Setup) (stores more : List StoreV) (file : List ℕ) → StandsForAny s setup stores file → StandsForAny s setup (stores ++ more) file
@@ -60,13 +80,6 @@ any_front s setup (store ∷ stores) more file any = elim any [ inl h ↦ inl h 
 get_beyond : {X : Type 0} (xs : List X) (x : X) (zs : List X) (k : ℕ) → slice_get (xs ++ x ∷ zs) (length xs + 1 + k) ≡ slice_get zs k
 get_beyond [] x zs k = let z : 0 + 1 + k ≡ suc k = omega arith in ap (slice_get (x ∷ zs)) z
 get_beyond (y ∷ xs) x zs k = let z : suc (length xs) + 1 + k ≡ suc (length xs + 1 + k) = omega arith in ap (slice_get (y ∷ xs ++ x ∷ zs)) z ∙ get_beyond xs x zs k
-
-get_next : {X : Type 0} (xs : List X) (x : X) (zs : List X) → slice_get (xs ++ x ∷ zs) (length xs) ≡ Some x
-get_next [] x zs = refl
-get_next (y ∷ xs) x zs = get_next xs x zs
-
-same_value : {X : Type 0} (x y : X) → Some x ≡ Some y → x ≡ y
-same_value x y e = cc
 
 module _ {D : Type 0} (seen : D → Contents) (images : D → Image → Type 0) (setup : Setup) (disks left rest : List D) (server : ℕ) (stores : List (Store (Fused D))) (disk new : D) (front back : List D)
     (so : AreRaised seen images setup disks left server stores) (first : left ≡ disk ∷ rest) (out : Paired (λ k. IsDiskOf seen images) 0 stores front) (all : back ≡ front ++ new ∷ rest) where

@@ -1,5 +1,5 @@
 -- What an opening makes of disks: servers that are up on them, and a simulation from which a run may begin.
-use Rattle.std.specs.Prelude.{◌≡◌, ℕ, ◌+◌, ◌<◌, Bool, true, is_some, List, [], ◌∷◌, ◌++◌, length, Some}
+use Rattle.std.specs.Prelude.{◌≡◌, ℕ, ◌+◌, ◌<◌, ◌≤◌, Bool, true, is_some, List, [], ◌∷◌, ◌++◌, length, None, Some}
 use Rattle.std.specs.Prelude.{map as list_map}
 use Rattle.std.specs.FinSet as set
 use Rattle.std.specs.List.{slice_get, range_with_len}
@@ -58,6 +58,14 @@ pub record IsUpOn {D : Type 0} (seen : D → Contents) (images : D → Image →
   pub sure : store.doubt ≡ []
   pub opened : OnTold (seen old 1) (λ bytes. (st : StoreV) × FileStandsFor s setup bytes st × (store.up ≡ Some (opened_store st)))
   pub back : IsHandedBack seen images setup s old store.disk.inner
+
+-- a server is behind a fuse that is not armed, and the count of its disk did not fall
+abbrev pub IsCounted : {D : Type 0} → (D → ℕ) → D → Store (Fused D) → Type 0
+IsCounted faults old store = (faults old ≤ faults store.disk.inner) × (store.disk.left ≡ None)
+
+-- so it is of each server
+abbrev pub AreCounted : {D : Type 0} → (D → ℕ) → List D → List (Store (Fused D)) → Type 0
+AreCounted {D = D} faults disks stores = (s : ℕ) (disk : D) (store : Store (Fused D)) → slice_get disks s ≡ Some disk → slice_get stores s ≡ Some store → IsCounted faults disk store
 
 -- the disk of a server, which stands for its node and rows where it is up
 pub record IsDiskOf {D : Type 0} (seen : D → Contents) (images : D → Image → Type 0) (store : Store (Fused D)) (disk : D) : Type 0 where

@@ -8,7 +8,7 @@ ghost use Rattle.node_store.specs.Parts.{IsServer};
 ghost use Rattle.world.specs.declared.state.ServerState.{ServerState};
 ghost use Rattle.world.specs.Law.{PastRun};
 ghost use Rattle.simulation.specs.Fuses.{seen_by, images_by};
-ghost use Rattle.simulation.specs.Openings.{OpensFrom, Paired, IsHandedBack, IsUpOn, IsDiskOf, IsOpenFault, IsNotOpened, IsFresh, IsNoDamage};
+ghost use Rattle.simulation.specs.Openings.{OpensFrom, Paired, IsHandedBack, IsUpOn, IsCounted, AreCounted, IsDiskOf, IsOpenFault, IsNotOpened, IsFresh, IsNoDamage};
 ghost use Rattle.simulation.specs.Ranges.{IsSetup};
 ghost use Rattle.simulation.specs.Shows.{AreServers};
 ghost use Rattle.simulation.specs.Starts.{AreDisks, AreReached};
@@ -45,6 +45,7 @@ impl<D: Disk + Drop> Simulation<D> {
         requires disks { length disks.items ≡ setup.servers }
         ensures begins { IfOk result (λ sim. (past : List PastRun) → AreReached D.seen D.images setup disks.items past → OpensFrom (seen_by D.seen) (images_by D.images) setup past sim) }
         ensures fresh { IfOk result (IsFresh setup) }
+        ensures counts { IfOk result (λ sim. AreCounted D.faults disks.items sim.stores) }
         ensures still { IfErr result (λ refused. (past : List PastRun) → AreReached D.seen D.images setup disks.items past → AreReached D.seen D.images setup refused.disks.items past) }
         ensures refused { IfErr result (λ refused. IsNotOpened D.faults D.seen setup disks.items refused.disks.items refused.server refused.fault) }
         ensures sound { IfErr result (λ refused. (past : List PastRun) → AreReached D.seen D.images setup disks.items past → IsNoDamage refused.fault) }
@@ -129,6 +130,7 @@ fn bring_up_all<D: Disk + Drop>(
     requires stores { (stores.items ≡ []) × (setup.servers ≤ vec_capacity stores) }
     requires back { (back.items ≡ []) × (setup.servers ≤ vec_capacity back) }
     ensures up { IfOk result (λ x. Paired (IsUpOn D.seen D.images setup) 0 disks.items x.0.items) }
+    ensures counts { IfOk result (λ x. AreCounted D.faults disks.items x.0.items) }
     ensures room { IfOk result (λ x. (x.1.items ≡ []) × (setup.servers ≤ vec_capacity x.1)) }
     ensures back { IfErr result (λ refused. Paired (IsHandedBack D.seen D.images setup) 0 disks.items refused.disks.items) }
     ensures refused { IfErr result (λ refused. IsNotOpened D.faults D.seen setup disks.items refused.disks.items refused.server refused.fault) }
@@ -160,6 +162,7 @@ fn bring_up<D: Disk>(
 ) -> Result<NodeStore<Fuse<D>>, Refused<D>>
     requires { IsServer server setup }
     ensures up { IfOk result (IsUpOn D.seen D.images setup server disk) }
+    ensures counts { IfOk result (IsCounted D.faults disk) }
     ensures back { IfErr result (λ refused. IsHandedBack D.seen D.images setup server disk refused.disk) }
     ensures cause { IfErr result (λ refused. IsOpenFault D.faults D.seen setup server disk refused.disk refused.fault) }
 {

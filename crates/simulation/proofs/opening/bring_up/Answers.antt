@@ -1,4 +1,4 @@
-use Rattle.simulation.proofs.Opened.{handed, fused_up, open_fault}
+use Rattle.simulation.proofs.Opened.{handed, fused_up, fused_counted, open_fault}
 use Rattle.simulation.proofs.opening.bring_up.Goals as goal
 
 pub returns-in-Ok-clause-up : goal.returns-in-Ok-clause-up
@@ -8,6 +8,9 @@ returns-in-Ok-clause-up g c =
     let s = c.in-Ok.store in
     fused_up d.seen d.images c.args.setup c.args.server c.args.disk s c.fused.result c.fused.ensures e.named e.sure e.opened
     (handed d.seen d.images d.moment d.images_since g.met.D.Disk.counts_now c.args.setup c.args.server c.args.disk s.disk e.told e.any_moment)
+
+pub returns-in-Ok-clause-counts : goal.returns-in-Ok-clause-counts
+returns-in-Ok-clause-counts g c = fused_counted g.D.Disk.faults c.args.disk c.in-Ok.store c.fused.result c.fused.ensures c.in-Ok.ensures.same
 
 pub returns-in-Err-clause-back : goal.returns-in-Err-clause-back
 returns-in-Err-clause-back g c =

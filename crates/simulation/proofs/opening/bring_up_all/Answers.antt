@@ -1,6 +1,6 @@
 use Rattle.std.proofs.Common.{◌+◌, refl, arith}
 use Rattle.std.specs.Vec.Iter.{into_iter_items}
-use Rattle.simulation.proofs.Raising.{raised_one, raised_below, raised_count, all_back, not_opened}
+use Rattle.simulation.proofs.Raising.{raised_one, counted_one, raised_below, raised_count, all_back, not_opened}
 use Rattle.simulation.proofs.opening.bring_up_all.Goals as goal
 
 pub push_reserved-requires : goal.push_reserved-requires
@@ -46,5 +46,7 @@ loop-disk-preserved g c =
     record {
       so = raised_one d.seen d.images c.args.setup c.args.disks.items (into_iter_items at.rest) (into_iter_items c.next.new.self) at.server (at.server + 1) at.stores.items c.push_reserved.new.self.items c.in-Some.disk c.in-Ok.store
           at.invariant.so c.in-Some.ensures.items c.in-Ok.ensures.up refl c.push_reserved.ensures.items;
+      counted = counted_one d.seen d.images c.args.setup c.args.disks.items (into_iter_items at.rest) (into_iter_items c.next.new.self) at.server at.stores.items c.push_reserved.new.self.items c.in-Some.disk c.in-Ok.store
+          at.invariant.so c.in-Some.ensures.items d.faults at.invariant.counted c.in-Ok.ensures.counts c.push_reserved.ensures.items;
       room = omega arith;
     }

@@ -1,12 +1,14 @@
 use Rattle.std.proofs.Common.{◌≤◌}
 use Rattle.std.specs.Vec.{vec_capacity}
 use Rattle.std.specs.Vec.Iter.{into_iter_items, into_iter_len}
+use Rattle.simulation.specs.Openings.{AreCounted}
 use Rattle.simulation.proofs.Raising.{AreRaised}
 use Rattle.simulation.proofs.opening.bring_up_all.Given as goal
 
 abbrev pub invariant-loop-disk : goal.invariant-loop-disk
 invariant-loop-disk g l = record {
   so : AreRaised g.D.Disk.seen g.D.Disk.images l.setup l.fn.disks.items (into_iter_items l.rest) l.server l.stores.items;
+  counted : AreCounted g.D.Disk.faults l.fn.disks.items l.stores.items;
   room : l.setup.servers ≤ vec_capacity l.stores;
 }
 
