@@ -287,7 +287,7 @@ module _ {X : Type 0} (was old : SimulationV X) (same : was ≡ old) (number pla
 
 -- A call is sent again
 
-made_fits : (call : Call) → IsWellMade call → dir_of call < 2 ^ 48
+pub made_fits : (call : Call) → IsWellMade call → dir_of call < 2 ^ 48
 made_fits (Create dir name) made = made.0.1
 made_fits (Mkdir dir name) made = made.0.1
 made_fits (Remove dir name) made = made.0.1

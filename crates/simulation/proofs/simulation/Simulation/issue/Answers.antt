@@ -2,7 +2,7 @@ use Rattle.std.proofs.Common.{sym, subst, refl, ◌<◌, ◌^◌}
 use Rattle.mds_out.specs.Fused.{Fused}
 use Rattle.simulation.specs.Fuses.{seen_by, images_by}
 use Rattle.simulation.specs.Shows.{SimulationV}
-use Rattle.simulation.proofs.Carried.{is_free, few_calls, ranged_refused, ranged_issued, send_place, issue_asks, issue_done}
+use Rattle.simulation.proofs.Carried.{is_free, few_calls, made_fits, ranged_refused, ranged_issued, send_place, issue_asks, issue_done}
 use Rattle.simulation.proofs.simulation.Simulation.issue.Goals as goal
 
 pub issue-requires-clause-idle : goal.issue-requires-clause-idle
@@ -12,6 +12,9 @@ pub issue-requires-clause-room : goal.issue-requires-clause-room
 issue-requires-clause-room g c =
     let free = is_free _ _ c.args.client c.index_mut.result.now c.self.view_is c.requires.free c.index_mut.ensures.value in
     few_calls _ _ _ _ _ _ c.self.invariant.0 _ _ free.at.place
+
+pub issue-requires-clause-fits : goal.issue-requires-clause-fits
+issue-requires-clause-fits g c = made_fits c.args.call c.requires.made
 
 pub invariant_of-self : goal.invariant_of-self
 invariant_of-self g c =
