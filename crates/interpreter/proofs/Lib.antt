@@ -2,6 +2,7 @@ pub mod Effecting
 pub mod Following
 pub mod Happening
 pub mod Looping
+pub mod Paying
 pub mod Redirecting
 pub mod Settling
 pub mod Sights

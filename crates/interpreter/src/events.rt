@@ -4,12 +4,14 @@ ghost use Rattle.std.specs.List.{slice_get};
 ghost use Rattle.node_store.specs.Serve.{IsWellMade};
 ghost use Rattle.simulation.specs.Calls.{IsRequestAt};
 ghost use Rattle.simulation.specs.Fuses.{seen_by, images_by};
+ghost use Rattle.simulation.specs.Licences.{none_at};
 ghost use Rattle.simulation.specs.Runs.{RunV};
 ghost use Rattle.simulation.specs.Shows.{Shows, client_at, is_idle, is_busy, server_for};
 ghost use Rattle.simulation.specs.Shows as shown;
 ghost use Rattle.world.specs.declared.event.Event.TheVariants as Event;
 ghost use Rattle.world.specs.declared.event.StopCause.TheVariants as StopCause;
 ghost use Rattle.world.specs.Events.{is_call, is_for_client};
+ghost use Rattle.interpreter.specs.Payments.{Pays};
 ghost use Rattle.interpreter.specs.Steps.{Carries, Halts, IsEvent, IsDeliveredTo, OrNone, RepliesAt, halt_of};
 ghost use Rattle.interpreter.specs.Story.{IsDelivery, IsRestarted, is_redirected, redirects};
 
@@ -31,6 +33,7 @@ impl<D: Disk> Interpreter<D> {
         ensures request { IfOk result (λ place. IsRequestAt self.new.simulation client place) }
         ensures ok { OnOk result (Carries (seen_by D.seen) (images_by D.images) self.old.simulation self.new.simulation self.old.pending.items self.new.pending.items (IsEvent (Event.Issue client call))) }
         ensures err { IfErr result (Halts (seen_by D.seen) (images_by D.images) self.old.simulation self.new.simulation self.old.pending.items self.new.pending.items (OrNone (IsEvent (Event.Issue client call)))) }
+        ensures paid { Pays D.faults self.old.simulation.stores self.new.simulation.stores self.old.pending.items self.new.pending.items none_at }
         ensures setup { self.new.simulation.setup ≡ self.old.simulation.setup }
     {
         self.admit()?;
@@ -45,6 +48,7 @@ impl<D: Disk> Interpreter<D> {
         ensures request { IfOk result (λ place. IsRequestAt self.new.simulation client place) }
         ensures ok { OnOk result (Carries (seen_by D.seen) (images_by D.images) self.old.simulation self.new.simulation self.old.pending.items self.new.pending.items (IsEvent (Event.Resend client))) }
         ensures err { IfErr result (Halts (seen_by D.seen) (images_by D.images) self.old.simulation self.new.simulation self.old.pending.items self.new.pending.items (OrNone (IsEvent (Event.Resend client)))) }
+        ensures paid { Pays D.faults self.old.simulation.stores self.new.simulation.stores self.old.pending.items self.new.pending.items none_at }
         ensures setup { self.new.simulation.setup ≡ self.old.simulation.setup }
     {
         self.admit()?;
@@ -59,6 +63,7 @@ impl<D: Disk> Interpreter<D> {
         ensures room { OnOk result (is_some (server_for (slice_get self.old.simulation.sent place)) ≡ true → self.old.simulation.count < 2 ^ 20) }
         ensures replies { IfOk result (λ first. RepliesAt self.old.simulation self.new.simulation place first) }
         ensures err { IfErr result (Halts (seen_by D.seen) (images_by D.images) self.old.simulation self.new.simulation self.old.pending.items self.new.pending.items (OrNone (λ run. IsDelivery run place))) }
+        ensures paid { Pays D.faults self.old.simulation.stores self.new.simulation.stores self.old.pending.items self.new.pending.items none_at }
         ensures setup { self.new.simulation.setup ≡ self.old.simulation.setup }
     {
         let Some(server) = self.simulation.server_for(place) else {
@@ -80,6 +85,7 @@ impl<D: Disk> Interpreter<D> {
         ensures room { OnOk result (self.old.simulation.count < 2 ^ 20) }
         ensures replies { IfOk result (λ first. RepliesAt self.old.simulation self.new.simulation place first) }
         ensures err { IfErr result (Halts (seen_by D.seen) (images_by D.images) self.old.simulation self.new.simulation self.old.pending.items self.new.pending.items (OrNone (λ run. IsDelivery run place))) }
+        ensures paid { Pays D.faults self.old.simulation.stores self.new.simulation.stores self.old.pending.items self.new.pending.items none_at }
         ensures setup { self.new.simulation.setup ≡ self.old.simulation.setup }
     {
         self.admit()?;
@@ -107,6 +113,7 @@ impl<D: Disk> Interpreter<D> {
         ensures room { OnOk result (self.old.simulation.count < 2 ^ 20) }
         ensures replies { IfOk result (λ first. RepliesAt self.old.simulation self.new.simulation place first) }
         ensures err { IfErr result (Halts (seen_by D.seen) (images_by D.images) self.old.simulation self.new.simulation self.old.pending.items self.new.pending.items (OrNone (λ run. IsDelivery run place))) }
+        ensures paid { Pays D.faults self.old.simulation.stores self.new.simulation.stores self.old.pending.items self.new.pending.items none_at }
         ensures setup { self.new.simulation.setup ≡ self.old.simulation.setup }
     {
         self.admit()?;
@@ -123,6 +130,7 @@ impl<D: Disk> Interpreter<D> {
         ensures redirected { IfOk result (λ redirected. (run : RunV) → Shows (seen_by D.seen) (images_by D.images) self.old.simulation run → redirected ≡ redirects run.trace.world client place) }
         ensures busy { IfOk result (λ redirected. redirected ≡ true → is_busy (client_at self.new.simulation.clients client) ≡ true) }
         ensures err { IfErr result (Halts (seen_by D.seen) (images_by D.images) self.old.simulation self.new.simulation self.old.pending.items self.new.pending.items (OrNone (IsEvent (Event.Take client place)))) }
+        ensures paid { Pays D.faults self.old.simulation.stores self.new.simulation.stores self.old.pending.items self.new.pending.items none_at }
         ensures setup { self.new.simulation.setup ≡ self.old.simulation.setup }
     {
         self.admit()?;
@@ -141,6 +149,7 @@ impl<D: Disk> Interpreter<D> {
     pub(crate) fn tick(&mut self, by: u64) -> Result<(), Halt>
         ensures ok { OnOk result (Carries (seen_by D.seen) (images_by D.images) self.old.simulation self.new.simulation self.old.pending.items self.new.pending.items (IsEvent (Event.Tick by))) }
         ensures err { IfErr result (Halts (seen_by D.seen) (images_by D.images) self.old.simulation self.new.simulation self.old.pending.items self.new.pending.items (OrNone (IsEvent (Event.Tick by)))) }
+        ensures paid { Pays D.faults self.old.simulation.stores self.new.simulation.stores self.old.pending.items self.new.pending.items none_at }
         ensures setup { self.new.simulation.setup ≡ self.old.simulation.setup }
     {
         self.admit()?;
@@ -158,6 +167,7 @@ impl<D: Disk> Interpreter<D> {
         requires { (server < self.old.simulation.setup.servers) × (shown.is_up self.old.simulation server ≡ true) }
         ensures ok { OnOk result (Carries (seen_by D.seen) (images_by D.images) self.old.simulation self.new.simulation self.old.pending.items self.new.pending.items (IsEvent (Event.Stop server StopCause.Asked))) }
         ensures err { IfErr result (Halts (seen_by D.seen) (images_by D.images) self.old.simulation self.new.simulation self.old.pending.items self.new.pending.items (OrNone (IsEvent (Event.Stop server StopCause.Asked)))) }
+        ensures paid { Pays D.faults self.old.simulation.stores self.new.simulation.stores self.old.pending.items self.new.pending.items none_at }
         ensures setup { self.new.simulation.setup ≡ self.old.simulation.setup }
     {
         self.admit()?;
@@ -170,6 +180,7 @@ impl<D: Disk> Interpreter<D> {
         requires { (server < self.old.simulation.setup.servers) × (shown.is_up self.old.simulation server ≢ true) }
         ensures ok { OnOk result (Carries (seen_by D.seen) (images_by D.images) self.old.simulation self.new.simulation self.old.pending.items self.new.pending.items (λ run. IsRestarted server)) }
         ensures err { IfErr result (Halts (seen_by D.seen) (images_by D.images) self.old.simulation self.new.simulation self.old.pending.items self.new.pending.items (OrNone (λ run. IsRestarted server))) }
+        ensures paid { Pays D.faults self.old.simulation.stores self.new.simulation.stores self.old.pending.items self.new.pending.items none_at }
         ensures setup { self.new.simulation.setup ≡ self.old.simulation.setup }
     {
         self.admit()?;

@@ -4,10 +4,12 @@ ghost use Rattle.node_store.specs.Serve.{IsWellMade};
 ghost use Rattle.script.specs.Grammar.{IsClient};
 ghost use Rattle.simulation.specs.Calls.{IsRequestAt};
 ghost use Rattle.simulation.specs.Fuses.{seen_by, images_by};
+ghost use Rattle.simulation.specs.Licences.{none_at};
 ghost use Rattle.simulation.specs.Runs.{RunV};
 ghost use Rattle.simulation.specs.Shows.{Shows, client_at, is_idle, is_busy};
 ghost use Rattle.world.specs.declared.event.Event.TheVariants as Event;
 ghost use Rattle.world.specs.Events.{is_call};
+ghost use Rattle.interpreter.specs.Payments.{Pays, fuses_of};
 ghost use Rattle.interpreter.specs.Steps.{Carries, Halts, IsRound, IsRequested, allows};
 ghost use Rattle.interpreter.specs.Story.{IsSaid, IsBegun, IsDone, IsFollowed, IsFollowing, IsSettled, IsSettling, IsSentAndFollowed, IsSending, is_allowed};
 
@@ -46,6 +48,7 @@ impl<D: Disk> Interpreter<D> {
         requires allowed { allows self.old.simulation line ≡ true }
         ensures ok { OnOk result (Carries (seen_by D.seen) (images_by D.images) self.old.simulation self.new.simulation self.old.pending.items self.new.pending.items (λ run. IsDone run line)) }
         ensures err { IfErr result (Halts (seen_by D.seen) (images_by D.images) self.old.simulation self.new.simulation self.old.pending.items self.new.pending.items (λ run. IsBegun run line)) }
+        ensures paid { Pays D.faults self.old.simulation.stores self.new.simulation.stores self.old.pending.items self.new.pending.items (fuses_of line) }
         ensures setup { self.new.simulation.setup ≡ self.old.simulation.setup }
     {
         match line {
@@ -83,6 +86,7 @@ impl<D: Disk> Interpreter<D> {
         requires served { is_call call ≡ true }
         ensures ok { OnOk result (Carries (seen_by D.seen) (images_by D.images) self.old.simulation self.new.simulation self.old.pending.items self.new.pending.items (λ run. IsSentAndFollowed run client (Event.Issue client call))) }
         ensures err { IfErr result (Halts (seen_by D.seen) (images_by D.images) self.old.simulation self.new.simulation self.old.pending.items self.new.pending.items (λ run. IsSending run client (Event.Issue client call))) }
+        ensures paid { Pays D.faults self.old.simulation.stores self.new.simulation.stores self.old.pending.items self.new.pending.items none_at }
         ensures setup { self.new.simulation.setup ≡ self.old.simulation.setup }
     {
         let place = self.issue(alloc, client, call)?;
@@ -95,6 +99,7 @@ impl<D: Disk> Interpreter<D> {
         requires busy { is_busy (client_at self.old.simulation.clients client) ≡ true }
         ensures ok { OnOk result (Carries (seen_by D.seen) (images_by D.images) self.old.simulation self.new.simulation self.old.pending.items self.new.pending.items (λ run. IsSentAndFollowed run client (Event.Resend client))) }
         ensures err { IfErr result (Halts (seen_by D.seen) (images_by D.images) self.old.simulation self.new.simulation self.old.pending.items self.new.pending.items (λ run. IsSending run client (Event.Resend client))) }
+        ensures paid { Pays D.faults self.old.simulation.stores self.new.simulation.stores self.old.pending.items self.new.pending.items none_at }
         ensures setup { self.new.simulation.setup ≡ self.old.simulation.setup }
     {
         let place = self.resend(alloc, client)?;
@@ -108,6 +113,7 @@ impl<D: Disk> Interpreter<D> {
         requires request { IsRequestAt self.old.simulation client place }
         ensures ok { OnOk result (Carries (seen_by D.seen) (images_by D.images) self.old.simulation self.new.simulation self.old.pending.items self.new.pending.items (λ run. IsFollowed run client place)) }
         ensures err { IfErr result (Halts (seen_by D.seen) (images_by D.images) self.old.simulation self.new.simulation self.old.pending.items self.new.pending.items (λ run. IsFollowing run client place)) }
+        ensures paid { Pays D.faults self.old.simulation.stores self.new.simulation.stores self.old.pending.items self.new.pending.items none_at }
         ensures setup { self.new.simulation.setup ≡ self.old.simulation.setup }
     {
         let mut next = place;
@@ -131,6 +137,7 @@ impl<D: Disk> Interpreter<D> {
         ensures ok { IfOk result (λ next. Carries (seen_by D.seen) (images_by D.images) self.old.simulation self.new.simulation self.old.pending.items self.new.pending.items (IsRound client place next)) }
         ensures request { IfOk result (IsRequested self.new.simulation client) }
         ensures err { IfErr result (Halts (seen_by D.seen) (images_by D.images) self.old.simulation self.new.simulation self.old.pending.items self.new.pending.items (λ run. IsFollowing run client place)) }
+        ensures paid { Pays D.faults self.old.simulation.stores self.new.simulation.stores self.old.pending.items self.new.pending.items none_at }
         ensures setup { self.new.simulation.setup ≡ self.old.simulation.setup }
     {
         let Some(reply) = self.deliver(alloc, place)? else {
@@ -147,6 +154,7 @@ impl<D: Disk> Interpreter<D> {
     fn settle(&mut self, alloc: Global) -> Result<(), Halt>
         ensures ok { OnOk result (Carries (seen_by D.seen) (images_by D.images) self.old.simulation self.new.simulation self.old.pending.items self.new.pending.items IsSettled) }
         ensures err { IfErr result (Halts (seen_by D.seen) (images_by D.images) self.old.simulation self.new.simulation self.old.pending.items self.new.pending.items IsSettling) }
+        ensures paid { Pays D.faults self.old.simulation.stores self.new.simulation.stores self.old.pending.items self.new.pending.items none_at }
         ensures setup { self.new.simulation.setup ≡ self.old.simulation.setup }
     {
         // Each round is an event, so a run has no more of them.

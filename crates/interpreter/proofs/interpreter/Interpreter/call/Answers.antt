@@ -4,6 +4,7 @@ use Rattle.interpreter.specs.Steps.{Halts}
 use Rattle.interpreter.specs.Story.{IsFollowing, IsSending}
 use Rattle.interpreter.proofs.Following.{sent_followed, sent_halts, unsent_halts}
 use Rattle.interpreter.proofs.Happening.{err_at, on_ok, on_err}
+use Rattle.interpreter.proofs.Paying.{pays_next}
 use Rattle.interpreter.proofs.interpreter.Interpreter.call.Goals as goal
 
 pub returns-in_err-place-clause-err : goal.returns-in_err-place-clause-err
@@ -20,3 +21,7 @@ pub returns-clause-err : goal.returns-clause-err
 returns-clause-err g c =
     on_err (Halts (seen_by g.D.Disk.seen) (images_by g.D.Disk.images) c.issue.new.self.simulation c.follow.new.self.simulation c.issue.new.self.pending.items c.follow.new.self.pending.items (λ run. IsFollowing run c.args.client c.in_ok-place.place)) (Halts (seen_by g.D.Disk.seen) (images_by g.D.Disk.images) c.args.self.now.simulation c.follow.new.self.simulation c.args.self.now.pending.items c.follow.new.self.pending.items (λ run. IsSending run c.args.client (Issue c.args.client c.args.call))) c.follow.result c.follow.ensures.err
     (λ halt. sent_halts (seen_by g.D.Disk.seen) (images_by g.D.Disk.images) c.args.self.now.simulation c.issue.new.self.simulation c.follow.new.self.simulation c.args.self.now.pending.items c.issue.new.self.pending.items c.follow.new.self.pending.items c.args.client c.in_ok-place.place (Issue c.args.client c.args.call) halt c.in_ok-place.ensures.ok c.in_ok-place.ensures.place)
+
+pub returns-clause-paid : goal.returns-clause-paid
+returns-clause-paid g c =
+    pays_next g.D.Disk.faults c.args.self.now.simulation.stores c.issue.new.self.simulation.stores c.follow.new.self.simulation.stores c.args.self.now.pending.items c.issue.new.self.pending.items c.follow.new.self.pending.items c.issue.ensures.paid c.follow.ensures.paid

@@ -1,7 +1,11 @@
 use Rattle.simulation.specs.Fuses.{seen_by, images_by}
-use Rattle.std.proofs.Common.{None}
+use Rattle.std.proofs.Common.{None, refl, ap}
 use Rattle.interpreter.specs.Steps.{IsDeliveredTo}
 use Rattle.interpreter.proofs.Happening.{err_at, full_miss, missed_does, done_printed}
+use Rattle.simulation.specs.Licences.{none_at}
+use Rattle.mds_out.specs.Fused.{Fused}
+use Rattle.simulation.specs.Shows.{SimulationV}
+use Rattle.interpreter.proofs.Paying.{pays_same, pays_down, pays_at}
 use Rattle.interpreter.proofs.interpreter.Interpreter.miss.Goals as goal
 
 pub returns-in_err-admit-clause-err : goal.returns-in_err-admit-clause-err
@@ -13,3 +17,17 @@ pub returns-clause-ok : goal.returns-clause-ok
 returns-clause-ok g c =
     done_printed (seen_by g.D.Disk.seen) (images_by g.D.Disk.images) c.args.self.now.simulation c.miss.new.self c.print.new.self.simulation c.args.self.now.pending.items c.print.new.self.pending.items _ (IsDeliveredTo c.args.place None) c.in_ok-print.ensures.simulation
     (missed_does (seen_by g.D.Disk.seen) (images_by g.D.Disk.images) c.args.self.now.simulation c.miss.new.self c.args.server c.args.place c.requires.server c.requires.down c.miss.ensures.happens c.miss.ensures.after) c.in_ok-print.ensures.ok
+
+pub returns-in_err-admit-clause-paid : goal.returns-in_err-admit-clause-paid
+returns-in_err-admit-clause-paid g c =
+    pays_same g.D.Disk.faults c.args.self.now.simulation.stores c.args.self.now.simulation.stores c.args.self.now.pending.items c.args.self.now.pending.items refl refl
+
+pub returns-in_err-print-clause-paid : goal.returns-in_err-print-clause-paid
+returns-in_err-print-clause-paid g c =
+    pays_at g.D.Disk.faults c.args.self.now.simulation.stores c.miss.new.self c.print.new.self.simulation c.args.self.now.pending.items c.print.new.self.pending.items none_at c.in_err-print.ensures.simulation
+    (pays_same g.D.Disk.faults c.args.self.now.simulation.stores c.miss.new.self.stores c.args.self.now.pending.items c.print.new.self.pending.items (ap (λ (s : SimulationV (Fused g.row.D.Denot)). s.stores) c.miss.ensures.after) c.in_err-print.ensures.err)
+
+pub returns-clause-paid : goal.returns-clause-paid
+returns-clause-paid g c =
+    pays_at g.D.Disk.faults c.args.self.now.simulation.stores c.miss.new.self c.print.new.self.simulation c.args.self.now.pending.items c.print.new.self.pending.items none_at c.in_ok-print.ensures.simulation
+    (pays_down g.D.Disk.faults c.args.self.now.simulation.stores c.miss.new.self.stores c.args.self.now.pending.items c.print.new.self.pending.items c.args.server (ap (λ (s : SimulationV (Fused g.row.D.Denot)). s.stores) c.miss.ensures.after) c.in_ok-print.ensures.ok)

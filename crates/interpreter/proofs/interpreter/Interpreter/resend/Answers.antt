@@ -4,6 +4,7 @@ use Rattle.world.specs.declared.event.Event.TheVariants.{Resend}
 use Rattle.interpreter.specs.declared.interpreter.Halt.TheVariants.{OutOfMemory}
 use Rattle.interpreter.specs.Steps.{IsEvent}
 use Rattle.interpreter.proofs.Happening.{err_at, full_event, refused}
+use Rattle.interpreter.proofs.Paying.{pays_same}
 use Rattle.interpreter.proofs.interpreter.Interpreter.resend.Goals as goal
 
 pub returns-in_err-admit-clause-err : goal.returns-in_err-admit-clause-err
@@ -15,3 +16,15 @@ pub returns-in_err-place-clause-err : goal.returns-in_err-place-clause-err
 returns-in_err-place-clause-err g c =
     err_at _ OutOfMemory _ c.from_residual-in_err-place.ensures.1
     (refused (seen_by g.D.Disk.seen) (images_by g.D.Disk.images) c.args.self.now.simulation c.resend.new.self c.args.self.now.pending.items c.args.self.now.pending.items (IsEvent (Resend c.args.client)) c.in_err-place.ensures.err c.resend.ensures.setup refl)
+
+pub returns-in_err-admit-clause-paid : goal.returns-in_err-admit-clause-paid
+returns-in_err-admit-clause-paid g c =
+    pays_same g.D.Disk.faults c.args.self.now.simulation.stores c.args.self.now.simulation.stores c.args.self.now.pending.items c.args.self.now.pending.items refl refl
+
+pub returns-in_err-place-clause-paid : goal.returns-in_err-place-clause-paid
+returns-in_err-place-clause-paid g c =
+    pays_same g.D.Disk.faults c.args.self.now.simulation.stores c.resend.new.self.stores c.args.self.now.pending.items c.args.self.now.pending.items c.resend.ensures.stores refl
+
+pub returns-clause-paid : goal.returns-clause-paid
+returns-clause-paid g c =
+    pays_same g.D.Disk.faults c.args.self.now.simulation.stores c.resend.new.self.stores c.args.self.now.pending.items c.args.self.now.pending.items c.resend.ensures.stores refl

@@ -1,9 +1,11 @@
-use Rattle.std.proofs.Common.{refl, sym, Some, None}
+use Rattle.std.proofs.Common.{refl, sym, Some, None, arith}
 use Rattle.simulation.specs.Fuses.{seen_by, images_by}
 use Rattle.interpreter.specs.declared.interpreter.Halt.TheVariants.{OutOfMemory}
 use Rattle.interpreter.specs.Steps.{IsDeliveredTo}
 use Rattle.interpreter.specs.Story.{IsDelivery}
 use Rattle.interpreter.proofs.Happening.{err_at, full_serve, full_numbers, refused, answered_does, silent_does, stopped_does, delivery, done_silently, done_printed, not_printed}
+use Rattle.simulation.specs.Licences.{none_at, once_at}
+use Rattle.interpreter.proofs.Paying.{pays_same, pays_none, pays_stop, pays_at}
 use Rattle.interpreter.proofs.interpreter.Interpreter.serve.Goals as goal
 
 pub returns-in_err-admit-clause-err : goal.returns-in_err-admit-clause-err
@@ -40,3 +42,33 @@ pub returns-in_ok-print-in-Stopped-clause-ok : goal.returns-in_ok-print-in-Stopp
 returns-in_ok-print-in-Stopped-clause-ok g c =
     done_printed (seen_by g.D.Disk.seen) (images_by g.D.Disk.images) c.args.self.now.simulation c.serve.new.self c.print.new.self.simulation c.args.self.now.pending.items c.print.new.self.pending.items _ (IsDeliveredTo c.args.place None) c.in_ok-print-in-Stopped.ensures.simulation
     (stopped_does (seen_by g.D.Disk.seen) (images_by g.D.Disk.images) c.args.self.now.simulation c.serve.new.self c.args.server c.args.place c.requires.server c.requires.up (rw c.in-Stopped.is at (c.in_ok-place.ensures.ok c.args.server c.requires.server))) c.in_ok-print-in-Stopped.ensures.ok
+
+pub returns-in_err-admit-clause-paid : goal.returns-in_err-admit-clause-paid
+returns-in_err-admit-clause-paid g c =
+    pays_same g.D.Disk.faults c.args.self.now.simulation.stores c.args.self.now.simulation.stores c.args.self.now.pending.items c.args.self.now.pending.items refl refl
+
+pub returns-then-not-has_numbers-clause-paid : goal.returns-then-not-has_numbers-clause-paid
+returns-then-not-has_numbers-clause-paid g c =
+    pays_same g.D.Disk.faults c.args.self.now.simulation.stores c.args.self.now.simulation.stores c.args.self.now.pending.items c.args.self.now.pending.items refl refl
+
+pub returns-in_err-place-clause-paid : goal.returns-in_err-place-clause-paid
+returns-in_err-place-clause-paid g c =
+    pays_none g.D.Disk.faults c.args.self.now.simulation.stores c.serve.new.self.stores c.args.self.now.pending.items c.args.self.now.pending.items none_at none_at (c.in_err-place.ensures.licensed c.args.server c.requires.server) refl
+
+pub returns-in-Answered-clause-paid : goal.returns-in-Answered-clause-paid
+returns-in-Answered-clause-paid g c =
+    pays_none g.D.Disk.faults c.args.self.now.simulation.stores c.serve.new.self.stores c.args.self.now.pending.items c.args.self.now.pending.items none_at none_at (rw c.in-Answered.is at (c.in_ok-place.ensures.licensed c.args.server c.requires.server)) refl
+
+pub returns-in-Silent-clause-paid : goal.returns-in-Silent-clause-paid
+returns-in-Silent-clause-paid g c =
+    pays_none g.D.Disk.faults c.args.self.now.simulation.stores c.serve.new.self.stores c.args.self.now.pending.items c.args.self.now.pending.items none_at none_at (rw c.in-Silent.is at (c.in_ok-place.ensures.licensed c.args.server c.requires.server)) refl
+
+pub returns-in_ok-print-in-Stopped-clause-paid : goal.returns-in_ok-print-in-Stopped-clause-paid
+returns-in_ok-print-in-Stopped-clause-paid g c =
+    pays_at g.D.Disk.faults c.args.self.now.simulation.stores c.serve.new.self c.print.new.self.simulation c.args.self.now.pending.items c.print.new.self.pending.items none_at c.in_ok-print-in-Stopped.ensures.simulation
+    (pays_stop g.D.Disk.faults c.args.self.now.simulation.stores c.serve.new.self.stores c.args.self.now.pending.items c.print.new.self.pending.items c.args.server (omega (arith, c.ranges.server.fits)) (rw c.in-Stopped.is at (c.in_ok-place.ensures.licensed c.args.server c.requires.server)) c.in_ok-print-in-Stopped.ensures.ok)
+
+pub returns-in_err-print-in-Stopped-clause-paid : goal.returns-in_err-print-in-Stopped-clause-paid
+returns-in_err-print-in-Stopped-clause-paid g c =
+    pays_at g.D.Disk.faults c.args.self.now.simulation.stores c.serve.new.self c.print.new.self.simulation c.args.self.now.pending.items c.print.new.self.pending.items none_at c.in_err-print-in-Stopped.ensures.simulation
+    (pays_none g.D.Disk.faults c.args.self.now.simulation.stores c.serve.new.self.stores c.args.self.now.pending.items c.print.new.self.pending.items (once_at c.args.server) none_at (rw c.in-Stopped.is at (c.in_ok-place.ensures.licensed c.args.server c.requires.server)) c.in_err-print-in-Stopped.ensures.err)

@@ -1,4 +1,4 @@
-use Rattle.std.proofs.Common.{◌≡◌, ◌∙◌, refl, sym, ap, subst, ◌&&◌, Some}
+use Rattle.std.proofs.Common.{◌≡◌, ◌∙◌, refl, sym, ap, subst, ◌&&◌, Some, arith}
 use Rattle.mds_out.specs.Fused.{Fused}
 use Rattle.simulation.specs.Fuses.{seen_by, images_by}
 use Rattle.simulation.specs.Runs.{RunV}
@@ -11,6 +11,8 @@ use Rattle.interpreter.specs.Story.{is_redirected, redirects}
 use Rattle.interpreter.specs.Text.{taken_line}
 use Rattle.interpreter.proofs.Happening.{err_at, full_event, refused, does_event, done_printed, not_printed}
 use Rattle.interpreter.proofs.Redirecting.{take_line, take_redirects}
+use Rattle.simulation.specs.Licences.{none_at}
+use Rattle.interpreter.proofs.Paying.{pays_same, pays_taken, pays_at}
 use Rattle.interpreter.proofs.interpreter.Interpreter.take.Goals as goal
 use Rattle.interpreter.proofs.interpreter.Interpreter.take.Goals.{then-busy, else-busy}
 
@@ -48,3 +50,21 @@ returns-clause-redirected g c run shows =
       | then-busy w ↦ w.result-is ∙ w.is_redirected.ensures ∙ ap (λ b. b && is_redirected (Some c.in_ok-taken.taken)) (sym w.if-busy.true) ∙ both
       | else-busy w ↦ w.result-is ∙ w.if-busy.false ∙ ap (λ b. b && is_redirected (Some c.in_ok-taken.taken)) (sym w.if-busy.false) ∙ both
     ]
+
+pub returns-in_err-admit-clause-paid : goal.returns-in_err-admit-clause-paid
+returns-in_err-admit-clause-paid g c =
+    pays_same g.D.Disk.faults c.args.self.now.simulation.stores c.args.self.now.simulation.stores c.args.self.now.pending.items c.args.self.now.pending.items refl refl
+
+pub returns-in_err-taken-clause-paid : goal.returns-in_err-taken-clause-paid
+returns-in_err-taken-clause-paid g c =
+    pays_same g.D.Disk.faults c.args.self.now.simulation.stores c.take.new.self.stores c.args.self.now.pending.items c.args.self.now.pending.items c.take.ensures.stores refl
+
+pub returns-in_err-print-clause-paid : goal.returns-in_err-print-clause-paid
+returns-in_err-print-clause-paid g c =
+    pays_at g.D.Disk.faults c.args.self.now.simulation.stores c.take.new.self c.print.new.self.simulation c.args.self.now.pending.items c.print.new.self.pending.items none_at c.in_err-print.ensures.simulation
+    (pays_same g.D.Disk.faults c.args.self.now.simulation.stores c.take.new.self.stores c.args.self.now.pending.items c.print.new.self.pending.items c.take.ensures.stores c.in_err-print.ensures.err)
+
+pub returns-clause-paid : goal.returns-clause-paid
+returns-clause-paid g c =
+    pays_at g.D.Disk.faults c.args.self.now.simulation.stores c.take.new.self c.print.new.self.simulation c.args.self.now.pending.items c.print.new.self.pending.items none_at c.in_ok-print.ensures.simulation
+    (pays_taken g.D.Disk.faults c.args.self.now.simulation.stores c.take.new.self.stores c.args.self.now.pending.items c.print.new.self.pending.items c.args.client _ c.in_ok-taken.taken (omega (arith, c.ranges.client.fits)) c.take.ensures.stores c.in_ok-print.ensures.ok)
