@@ -45,6 +45,7 @@ impl<D: Disk + Drop> Simulation<D> {
         requires disks { length disks.items ≡ setup.servers }
         ensures begins { IfOk result (λ sim. (past : List PastRun) → AreReached D.seen D.images setup disks.items past → OpensFrom (seen_by D.seen) (images_by D.images) setup past sim) }
         ensures fresh { IfOk result (IsFresh setup) }
+        ensures servers { IfOk result (λ sim. length sim.stores ≡ setup.servers) }
         ensures counts { IfOk result (λ sim. AreCounted D.faults disks.items sim.stores) }
         ensures still { IfErr result (λ refused. (past : List PastRun) → AreReached D.seen D.images setup disks.items past → AreReached D.seen D.images setup refused.disks.items past) }
         ensures refused { IfErr result (λ refused. IsNotOpened D.faults D.seen setup disks.items refused.disks.items refused.server refused.fault) }

@@ -1,14 +1,16 @@
-use Rattle.std.proofs.Common.{◌<◌, ap, subst, sym, refl, List, arith}
+use Rattle.std.proofs.Common.{◌<◌, ◌∙◌, ap, subst, sym, refl, List, arith}
 use Rattle.std.specs.FinSet as set
 use Rattle.std.specs.Ordering.{nat_cmp}
 use Rattle.mds_out.specs.Fused.{Fused}
 use Rattle.records.specs.declared.msg.Msg.{Msg}
+use Rattle.simulation.specs.Openings.{IsUpOn}
 use Rattle.simulation.specs.Ranges.{AreRanges}
 use Rattle.simulation.specs.Shows.{SimulationV, waiting_cmp}
 use Rattle.simulation.proofs.Begins.{opens_from}
 use Rattle.simulation.proofs.Refusals.{are_reached_still}
 use Rattle.simulation.proofs.Freshly.{fresh_ranges}
 use Rattle.simulation.proofs.Leaving.{reached_sound}
+use Rattle.simulation.proofs.Pairs.{paired_length}
 use Rattle.simulation.proofs.simulation.Simulation.open.Goals as goal
 
 pub invariant_of-result : goal.invariant_of-result
@@ -58,3 +60,7 @@ pub returns-in-Err-clause-sound : goal.returns-in-Err-clause-sound
 returns-in-Err-clause-sound g c =
     let d = g.D.Disk in
     reached_sound d.faults d.seen d.images g.met.D.Disk.reads_as c.laws_of_disks.ensures.sound c.args.setup c.args.disks.items c.in-Err.refused.disks.items c.in-Err.refused.server c.in-Err.refused.fault c.requires.setup c.requires.disks c.in-Err.ensures.refused
+
+pub returns-in-Ok-bring_up_all-clause-servers : goal.returns-in-Ok-bring_up_all-clause-servers
+returns-in-Ok-bring_up_all-clause-servers g c =
+    paired_length (IsUpOn g.D.Disk.seen g.D.Disk.images c.args.setup) 0 c.args.disks.items c.in-Ok-bring_up_all.stores.items c.in-Ok-bring_up_all.ensures.up ∙ c.requires.disks
