@@ -1,13 +1,23 @@
--- The lines of effects, by what a simulation shows.
-use Rattle.std.proofs.Common.{◌≡◌, ◌∙◌, sym, ap, refl, List, [], ◌∷◌, ◌++◌, Bool, true, false, if◌then◌else◌, map, filter}
+-- The lines of effects: what a simulation shows of them, and that they tell of no stop.
+use Rattle.std.proofs.Common.{◌≡◌, ◌∙◌, sym, ap, refl, ℕ, ◌+◌, ◌/◌, ◌%◌, ◌==◌, List, [], ◌∷◌, ◌++◌, get_or, length, Bool, true, false, not, if◌then◌else◌, nat_le, nat_lt, map, filter, codes, decimal, arith}
+use Rattle.std.specs.Prelude.{◌&&◌}
+use Rattle.std.specs.Fmt.{digit_glyph}
 use Rattle.std.specs.List.{flat_map}
+use Rattle.std.proofs.lemmas.Bool.{and_parts, and_from, leb-true, ne_eqb}
+use Rattle.mds_base.specs.declared.call.Call.{Call}
+use Rattle.mds_base.specs.declared.call.Call.TheVariants.{Create, Mkdir, Remove, Lookup, Setattr, Scan, Grab, Load, Link}
+use Rattle.mds_base.specs.declared.entry.Entry.{Entry}
+use Rattle.script.specs.Text.{is_plain_byte, byte_text, name_text}
+use Rattle.simulation.specs.declared.made.Made.{Made}
 use Rattle.mds_out.specs.Disk.{Image, Contents}
 use Rattle.simulation.specs.Runs.{RunV}
 use Rattle.simulation.specs.Shows.{SimulationV, Shows, made_of, kind_of, kind_stands, stands_in}
 use Rattle.world.specs.Histories as past
 use Rattle.world.specs.Histories.{MadeV, AnsweredV, stands, stands_as, is_taken, entries_of}
 use Rattle.interpreter.specs.EventText.{effects_text}
-use Rattle.interpreter.specs.Text.{effect_line, effect_of, effects_of}
+use Rattle.interpreter.specs.Payments.{IsPrinted, TellsNoStop, has_no_feed, times, stopped_line}
+use Rattle.interpreter.specs.Text.{call_text, place_text, reply_text, effect_line, effect_of, effects_of}
+use Rattle.interpreter.proofs.Paying.{clean_append, decimal_clean, reply_clean, other_times}
 
 module _ {X : Type 0} (seen : X → Contents) (images : X → Image → Type 0) (sim : SimulationV X) (run : RunV) (shows : Shows seen images sim run) where
   kind_same : (kind : past.Kind) → kind_stands sim.taken (kind_of kind) ≡ stands_as run.trace.past.answered kind
@@ -26,3 +36,79 @@ module _ {X : Type 0} (seen : X → Contents) (images : X → Image → Type 0) 
 
   pub effects_shown : flat_map (effect_of sim) sim.made ≡ effects_text run.trace.past
   effects_shown = ap (flat_map (effect_of sim)) (sym shows.made) ∙ lines_of run.trace.past.made
+
+-- ---- they tell of no stop
+
+glyph_clean : (b : Bool) (d : ℕ) → not ((if b then 48 + d else (55 + d)) == 10) ≡ true
+glyph_clean true d = ap not (ne_eqb (48 + d) 10 (λ e. omega (arith, e)))
+glyph_clean false d = ap not (ne_eqb (55 + d) 10 (λ e. omega (arith, e)))
+
+byte_clean : (byte : ℕ) → has_no_feed (byte_text byte) ≡ true
+byte_clean byte = by (is_plain_byte byte) refl
+  where
+    by : (b : Bool) → is_plain_byte byte ≡ b → has_no_feed (if b then byte ∷ [] else 37 ∷ digit_glyph true (byte / 16) ∷ digit_glyph true (byte % 16) ∷ []) ≡ true
+    by true plain =
+        let range = and_parts (nat_le 33 byte) (nat_le byte 126) (and_parts (nat_le 33 byte && nat_le byte 126) (not (byte == 37)) plain).0 in
+        let least = leb-true 33 byte range.0 in
+        and_from (not (byte == 10)) true (ap not (ne_eqb byte 10 (λ e. omega (arith, e, least)))) refl
+    by false plain =
+        and_from (not (digit_glyph true (byte / 16) == 10)) (not (digit_glyph true (byte % 16) == 10) && true) (glyph_clean (nat_lt (byte / 16) 10) (byte / 16))
+        (and_from (not (digit_glyph true (byte % 16) == 10)) true (glyph_clean (nat_lt (byte % 16) 10) (byte % 16)) refl)
+
+name_clean : (name : List ℕ) → has_no_feed (name_text name) ≡ true
+name_clean [] = refl
+name_clean (byte ∷ name) = clean_append (byte_text byte) (name_text name) (byte_clean byte) (name_clean name)
+
+place_clean : (verb : List ℕ) (dir : ℕ) (name : List ℕ) → has_no_feed verb ≡ true → has_no_feed (place_text verb dir name) ≡ true
+place_clean verb dir name clean =
+    clean_append (verb ++ codes " " ++ decimal dir ++ codes " ") (name_text name)
+    (clean_append (verb ++ codes " " ++ decimal dir) (codes " ") (clean_append (verb ++ codes " ") (decimal dir) (clean_append verb (codes " ") clean refl) (decimal_clean dir)) refl)
+    (name_clean name)
+
+-- a number behind other words
+more_clean : (words : List ℕ) (number : ℕ) → has_no_feed words ≡ true → has_no_feed (words ++ codes " " ++ decimal number) ≡ true
+more_clean words number clean = clean_append (words ++ codes " ") (decimal number) (clean_append words (codes " ") clean refl) (decimal_clean number)
+
+call_clean : (call : Call) → has_no_feed (call_text call) ≡ true
+call_clean (Create dir name) = place_clean (codes "create") dir name refl
+call_clean (Mkdir dir name) = place_clean (codes "mkdir") dir name refl
+call_clean (Remove dir name) = place_clean (codes "remove") dir name refl
+call_clean (Lookup dir name) = place_clean (codes "lookup") dir name refl
+call_clean (Setattr dir name mode size) = more_clean (place_text (codes "setattr") dir name ++ codes " " ++ decimal mode) size (more_clean (place_text (codes "setattr") dir name) mode (place_clean (codes "setattr") dir name refl))
+call_clean (Scan dir) = decimal_clean dir
+call_clean (Grab dir name count) = more_clean (place_text (codes "grab") dir name) count (place_clean (codes "grab") dir name refl)
+call_clean (Load dir rows) = more_clean (codes "load " ++ decimal dir) (length rows) (decimal_clean dir)
+call_clean (Link dir name id) = more_clean (place_text (codes "link") dir name) id (place_clean (codes "link") dir name refl)
+
+effect_printed : (entry : Entry) → IsPrinted (effect_line entry)
+effect_printed entry =
+    let client = codes "= " ++ decimal entry.client in
+    let seq = client ++ codes " " ++ decimal entry.seq in
+    let call = seq ++ codes " " ++ call_text entry.call in
+    record {
+      part = call ++ codes " " ++ reply_text entry.reply;
+      none = clean_append (call ++ codes " ") (reply_text entry.reply)
+          (clean_append call (codes " ") (clean_append (seq ++ codes " ") (call_text entry.call) (clean_append seq (codes " ") (more_clean client entry.seq (decimal_clean entry.client)) refl) (call_clean entry.call)) refl)
+          (reply_clean entry.reply);
+      is = refl;
+    }
+
+-- it begins with an equals sign
+not_stopped : ◌≡◌ {A = ℕ} 61 115 → ⊥
+not_stopped e = omega (arith, e)
+
+no_more : (line : List ℕ) (rest : List (List ℕ)) (s : ℕ) → (get_or line 0 0 ≡ 115 → ⊥) → times (stopped_line s) rest ≡ 0 → times (stopped_line s) (line ∷ rest) ≡ 0
+no_more line rest s other none = let few = other_times line other s in omega (arith, few, none)
+
+pub effects_quiet : {X : Type 0} (sim : SimulationV X) (made : List Made) → TellsNoStop (flat_map (effect_of sim) made)
+effects_quiet sim [] = record { printed = []; each = tt; is = refl; none = λ s. refl }
+effects_quiet sim (made ∷ more) = by (stands_in sim made) (effects_quiet sim more)
+  where
+    by : (b : Bool) → TellsNoStop (flat_map (effect_of sim) more) → TellsNoStop ((if b then effect_line made.entry else []) ++ flat_map (effect_of sim) more)
+    by true tells = record {
+      printed = effect_line made.entry ∷ tells.printed;
+      each = (effect_printed made.entry, tells.each);
+      is = ap (λ t. effect_line made.entry ++ t) tells.is;
+      none = λ s. no_more (effect_line made.entry) tells.printed s not_stopped (tells.none s);
+    }
+    by false tells = tells

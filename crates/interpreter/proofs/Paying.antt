@@ -28,7 +28,7 @@ use Rattle.interpreter.specs.Text.{kind_text, final_text, reply_text, taken_line
 
 -- ---- bytes of a line
 
-clean_append : (xs ys : List ℕ) → has_no_feed xs ≡ true → has_no_feed ys ≡ true → has_no_feed (xs ++ ys) ≡ true
+pub clean_append : (xs ys : List ℕ) → has_no_feed xs ≡ true → has_no_feed ys ≡ true → has_no_feed (xs ++ ys) ≡ true
 clean_append [] ys c d = d
 clean_append (x ∷ xs) ys c d =
     let both = and_parts (not (x == 10)) (has_no_feed xs) c in
@@ -48,7 +48,7 @@ onto_clean (suc k) n acc c =
     either true xs ys p q = p
     either false xs ys p q = q
 
-decimal_clean : (n : ℕ) → has_no_feed (decimal n) ≡ true
+pub decimal_clean : (n : ℕ) → has_no_feed (decimal n) ≡ true
 unfolding digits
 decimal_clean n = onto_clean 64 n [] refl
 
@@ -75,7 +75,7 @@ final_clean (Ids first) = decimal_clean first
 final_clean (Loaded count) = decimal_clean count
 final_clean Stale = refl
 
-reply_clean : (reply : Reply) → has_no_feed (reply_text reply) ≡ true
+pub reply_clean : (reply : Reply) → has_no_feed (reply_text reply) ≡ true
 reply_clean (Said said) = final_clean said
 reply_clean (Found attr until) = kind_clean attr
 reply_clean (Listed rows) = decimal_clean (length rows)
@@ -128,7 +128,7 @@ from_zero n = omega arith
 sum_assoc : (a b c : ℕ) → a + (b + c) ≡ (a + b) + c
 sum_assoc a b c = omega arith
 
-times_append : (line : List ℕ) (xs ys : List (List ℕ)) → times line (xs ++ ys) ≡ times line xs + times line ys
+pub times_append : (line : List ℕ) (xs ys : List (List ℕ)) → times line (xs ++ ys) ≡ times line xs + times line ys
 times_append line [] ys = from_zero (times line ys)
 times_append line (x ∷ xs) ys = ap (λ n. (if pointwise nat_eq x line then 1 else 0) + n) (times_append line xs ys) ∙ sum_assoc (if pointwise nat_eq x line then 1 else 0) (times line xs) (times line ys)
 
@@ -148,19 +148,22 @@ same_server s server small low same =
 stop_times : (s server : ℕ) → s < 2 ^ 64 → server < 2 ^ 64 → times (stopped_line s) (stopped_line server ∷ []) ≤ once_at server s
 stop_times s server small low = at_most (pointwise nat_eq (stopped_line server) (stopped_line s)) (s == server) (λ is. same_server s server small low ((bytes_eq-Decides (stopped_line server) (stopped_line s)).0 is))
 
-other_times : (line : List ℕ) → (get_or line 0 0 ≡ 115 → ⊥) → (s : ℕ) → times (stopped_line s) (line ∷ []) ≤ none_at s
+pub other_times : (line : List ℕ) → (get_or line 0 0 ≡ 115 → ⊥) → (s : ℕ) → times (stopped_line s) (line ∷ []) ≤ none_at s
 other_times line other s = never (pointwise nat_eq line (stopped_line s)) (λ is. other (ap (λ l. get_or l 0 0) ((bytes_eq-Decides line (stopped_line s)).0 is)))
 
 least : (n : ℕ) → 0 ≤ n
 least n = omega arith
 
-each_append : (xs ys : List (List ℕ)) → AllByRecursion IsPrinted xs → AllByRecursion IsPrinted ys → AllByRecursion IsPrinted (xs ++ ys)
+pub each_append : (xs ys : List (List ℕ)) → AllByRecursion IsPrinted xs → AllByRecursion IsPrinted ys → AllByRecursion IsPrinted (xs ++ ys)
 each_append [] ys h k = k
 each_append (x ∷ xs) ys h k = (h.0, each_append xs ys h.1 k)
 
+pub text_append : (xs ys : List (List ℕ)) → text_of (xs ++ ys) ≡ text_of xs ++ text_of ys
+text_append xs ys = flat_map-append {X = List ℕ} {A = ℕ} (λ l. l) xs ys
+
 module _ {D : Type 0} (faults : D → ℕ) where
   -- fewer stops are paid too
-  licensed_fewer : (a b : Option (Store (Fused D))) (m n f : ℕ) → m ≤ n → IsLicensed faults a b n f → IsLicensed faults a b m f
+  pub licensed_fewer : (a b : Option (Store (Fused D))) (m n f : ℕ) → m ≤ n → IsLicensed faults a b n f → IsLicensed faults a b m f
   licensed_fewer a b m n f fewer one = record { later = one.later; paid = paid_still one.paid }
     where
       paid_still : (n + (armed_of b + own_faults faults a) ≤ own_faults faults b + (armed_of a + f)) ⊎ (2 ^ 64 - 1 ≤ own_faults faults b) → (m + (armed_of b + own_faults faults a) ≤ own_faults faults b + (armed_of a + f)) ⊎ (2 ^ 64 - 1 ≤ own_faults faults b)
@@ -214,14 +217,17 @@ module _ {D : Type 0} (faults : D → ℕ) where
       pays_one old new was now (once_at server) none_at (stopped_line server) (server_printed (codes "stopped ") server refl) text (λ s small. stop_times s server small low) are
 
   -- one moment after another
-  pub pays_next : (a b c : List (Store (Fused D))) (p q r : List ℕ) → Pays faults a b p q none_at → Pays faults b c q r none_at → Pays faults a c p r none_at
-  pays_next a b c p q r one two = record {
+  pub pays_both : (a b c : List (Store (Fused D))) (p q r : List ℕ) (f g : ℕ → ℕ) → Pays faults a b p q f → Pays faults b c q r g → Pays faults a c p r (λ s. f s + g s)
+  pays_both a b c p q r f g one two = record {
     printed = one.printed ++ two.printed;
     each = each_append one.printed two.printed one.each two.each;
-    text = two.text ∙ ap (λ t. t ++ text_of two.printed) one.text ∙ append_assoc p (text_of one.printed) (text_of two.printed) ∙ ap (λ t. p ++ t) (sym (flat_map-append {X = List ℕ} {A = ℕ} (λ l. l) one.printed two.printed));
-    licensed = λ s small. subst (λ n. IsLicensed faults (slice_get a s) (slice_get c s) n 0) (sym (times_append (stopped_line s) one.printed two.printed))
-        (licensed_on faults (slice_get a s) (slice_get b s) (slice_get c s) (times (stopped_line s) one.printed) (times (stopped_line s) two.printed) 0 0 (one.licensed s small) (two.licensed s small));
+    text = two.text ∙ ap (λ t. t ++ text_of two.printed) one.text ∙ append_assoc p (text_of one.printed) (text_of two.printed) ∙ ap (λ t. p ++ t) (sym (text_append one.printed two.printed));
+    licensed = λ s small. subst (λ n. IsLicensed faults (slice_get a s) (slice_get c s) n (f s + g s)) (sym (times_append (stopped_line s) one.printed two.printed))
+        (licensed_on faults (slice_get a s) (slice_get b s) (slice_get c s) (times (stopped_line s) one.printed) (times (stopped_line s) two.printed) (f s) (g s) (one.licensed s small) (two.licensed s small));
   }
+
+  pub pays_next : (a b c : List (Store (Fused D))) (p q r : List ℕ) → Pays faults a b p q none_at → Pays faults b c q r none_at → Pays faults a c p r none_at
+  pays_next a b c p q r one two = pays_both a b c p q r none_at none_at one two
 
   -- a simulation that is the same has the same stores
   pub pays_at : (old : List (Store (Fused D))) (mid new : SimulationV (Fused D)) (was now : List ℕ) (fuses : ℕ → ℕ) → new ≡ mid → Pays faults old mid.stores was now fuses → Pays faults old new.stores was now fuses

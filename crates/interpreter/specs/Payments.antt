@@ -45,3 +45,10 @@ pub record Pays {D : Type 0} (faults : D → ℕ) (old new : List (Store (Fused 
 abbrev pub fuses_of : Line → ℕ → ℕ
 fuses_of (lines.Fuse server calls) = once_at server
 fuses_of line = none_at
+
+-- these are whole lines, none of which tells of a stop
+pub record TellsNoStop (text : List ℕ) : Type 0 where
+  pub printed : List (List ℕ)
+  pub each : AllByRecursion IsPrinted printed
+  pub is : text ≡ text_of printed
+  pub none : (s : ℕ) → times (stopped_line s) printed ≡ 0

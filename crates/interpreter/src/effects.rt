@@ -4,6 +4,7 @@ ghost use Rattle.simulation.specs.Fuses.{seen_by, images_by};
 ghost use Rattle.simulation.specs.Runs.{RunV};
 ghost use Rattle.simulation.specs.Shows.{Shows};
 ghost use Rattle.interpreter.specs.EventText.{effects_text};
+ghost use Rattle.interpreter.specs.Payments.{TellsNoStop};
 ghost use Rattle.interpreter.specs.Text.{effect_of};
 
 use crate::interpreter::Interpreter;
@@ -16,7 +17,8 @@ use std::fmt::Write;
 impl<D: Disk> Interpreter<D> {
     /// The lines of the effects, in their order (`docs/FORMATS.md`, "Text").
     pub fn effects(&self, alloc: Global) -> Result<String, AllocError>
-        ensures { IfOk result (λ text. (run : RunV) → Shows (seen_by D.seen) (images_by D.images) self.now.simulation run → string_bytes text ≡ effects_text run.trace.past) }
+        ensures shown { IfOk result (λ text. (run : RunV) → Shows (seen_by D.seen) (images_by D.images) self.now.simulation run → string_bytes text ≡ effects_text run.trace.past) }
+        ensures quiet { IfOk result (λ text. TellsNoStop (string_bytes text)) }
     {
         let mut text = String::new(alloc);
         for made in self.simulation.made() {
