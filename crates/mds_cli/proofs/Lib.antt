@@ -8,6 +8,8 @@ pub mod Turning
 pub mod Carrying
 pub mod Ending
 pub mod Running
+pub mod Telling
+pub mod Paying
 pub mod Opening
 pub mod Spellings
 pub mod Options

@@ -58,7 +58,7 @@ flows_text a b c pending text more flows appends =
     (sym (append_assoc (take flows.count text) pending more) ∙ ap (λ l. l ++ more) (ap (λ p. take flows.count text ++ p) flows.rest ∙ take-append-drop flows.count text))
     (appends_both a b c (take flows.count text) (pending ++ more) flows.taken appends)
 
-flows_front : (a b c : Option (List ℕ)) (pending text more : List ℕ) → Flows a b pending text → TakesFront b c (pending ++ more) → TakesFront a c (text ++ more)
+pub flows_front : (a b c : Option (List ℕ)) (pending text more : List ℕ) → Flows a b pending text → TakesFront b c (pending ++ more) → TakesFront a c (text ++ more)
 flows_front a b c pending text more flows front =
     subst (λ l. TakesFront a c l)
     (sym (append_assoc (take flows.count text) pending more) ∙ ap (λ l. l ++ more) (ap (λ p. take flows.count text ++ p) flows.rest ∙ take-append-drop flows.count text))
@@ -67,7 +67,7 @@ flows_front a b c pending text more flows front =
 took : (a b c : Option (List ℕ)) (pending text : List ℕ) → Flows a b pending text → Appends b c pending → Appends a c text
 took a b c pending text flows appends = subst (λ l. Appends a c l) (append-nil text) (flows_text a b c pending text [] flows (subst (λ l. Appends b c l) (sym (append-nil pending)) appends))
 
-took_front : (a b c : Option (List ℕ)) (pending text : List ℕ) → Flows a b pending text → TakesFront b c pending → TakesFront a c text
+pub took_front : (a b c : Option (List ℕ)) (pending text : List ℕ) → Flows a b pending text → TakesFront b c pending → TakesFront a c text
 took_front a b c pending text flows front = subst (λ l. TakesFront a c l) (append-nil text) (flows_front a b c pending text [] flows (subst (λ l. TakesFront b c l) (sym (append-nil pending)) front))
 
 -- a front of the lines of events is one of the whole text

@@ -35,7 +35,7 @@ lines_front (line ∷ lines) rest parts =
     ∙ ap (λ ls. line ∷ ls) (lines_front lines rest parts.1)
 
 -- the same of the lines that have their line feed
-first_ended : (line rest : List ℕ) → IsPart line → ended_lines (line ++ 10 ∷ rest) ≡ line ∷ ended_lines rest
+pub first_ended : (line rest : List ℕ) → IsPart line → ended_lines (line ++ 10 ∷ rest) ≡ line ∷ ended_lines rest
 first_ended [] rest part = refl
 first_ended (byte ∷ line) rest part =
     ap (λ b. cond b ([] ∷ ended_lines (line ++ 10 ∷ rest)) (onto_ended byte (ended_lines (line ++ 10 ∷ rest)))) (no_feed byte line part)

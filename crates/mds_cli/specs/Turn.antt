@@ -13,6 +13,7 @@ use Rattle.simulation.specs.Runs.{RunV}
 use Rattle.simulation.specs.Shows.{SimulationV, Shows, StandNear}
 use Rattle.world.specs.declared.event.Event.{Event}
 use Rattle.interpreter.specs.EventText.{events_text, effects_text}
+use Rattle.interpreter.specs.Payments.{TellsNoStop}
 use Rattle.interpreter.specs.Steps.{PutsFront}
 use Rattle.interpreter.specs.Story.{grown_by, all_may}
 use Rattle.mds_cli.specs.Follows.{IsAllowed, IsBad, IsCarriedOut, BeginsNext, StopsAt}
@@ -232,12 +233,14 @@ AreEffects seen images sim effects = (run : RunV) → Shows seen images sim run 
 pub record FinishesDone {X : Type 0} (seen : X → Contents) (images : X → Image → Type 0) (sim : SimulationV X) (before now : Option (List ℕ)) (faults faults_now : ℕ) (pending : List ℕ) : Type 0 where
   pub effects : List ℕ
   pub are : AreEffects seen images sim effects
+  pub quiet : TellsNoStop effects
   pub taken : Appends before now (pending ++ effects ++ codes "end\n")
   pub writes : faults_now ≡ faults
 
 pub record FinishesBroken {X : Type 0} (seen : X → Contents) (images : X → Image → Type 0) (sim : SimulationV X) (before now : Option (List ℕ)) (faults faults_now : ℕ) (pending : List ℕ) : Type 0 where
   pub effects : List ℕ
   pub are : AreEffects seen images sim effects
+  pub quiet : TellsNoStop effects
   pub taken : TakesFront before now (pending ++ effects ++ codes "end\n")
   pub writes : Rose faults faults_now
 

@@ -3,6 +3,7 @@ ghost use Rattle.std.specs.Prelude.{◌≡◌, [], length};
 ghost use Rattle.simulation.specs.Fuses.{seen_by, images_by};
 ghost use Rattle.simulation.specs.Ranges.{IsSetup};
 ghost use Rattle.mds_cli.specs.Ending.{EndsAs, EndsRunAs, outside};
+ghost use Rattle.mds_cli.specs.Stops.{TextIsPaid, ScriptIsPaid};
 
 use crate::reader::Reader;
 use crate::session::Session;
@@ -36,6 +37,7 @@ pub(crate) fn run<S: Source, K: Sink, D: Disk + Drop>(
         (outside (S.left input.old) (K.taken output.old) (S.faults input.old) (K.faults output.old))
         (outside (S.left input.new) (K.taken output.new) (S.faults input.new) (K.faults output.new)) }
     ensures passed_on { result.status ≡ Status.Done → K.passed_on output.new }
+    ensures paid { TextIsPaid D.faults disks.items result.disks.items (S.left input.old) (K.taken output.old) (K.taken output.new) }
 {
     laws_of_runs();
     laws_of_pasts::<D>();
@@ -74,6 +76,7 @@ fn carry_script<S: Source, K: Sink, D: Disk + Drop>(
         (outside (S.left input.new) (K.taken output.new) (S.faults input.new) (K.faults output.new))
         simulation result.disks.items }
     ensures passed_on { result.status ≡ Status.Done → K.passed_on output.new }
+    ensures paid { ScriptIsPaid D.faults simulation.stores result.disks.items (S.left input.old) (K.taken output.old) (K.taken output.new) }
 {
     let mut session = Session::new(alloc, reader, simulation);
     match session.carry(alloc, input, output) {

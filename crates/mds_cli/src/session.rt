@@ -1,5 +1,5 @@
 //! A run line by line: each line is carried out on a simulation, and the text of its events is made.
-ghost use Rattle.std.specs.Prelude.{◌≡◌, [], ◌++◌, IfOk, IfErr, OnOk, OnErr, List, codes};
+ghost use Rattle.std.specs.Prelude.{◌≡◌, [], ◌∷◌, ◌++◌, IfOk, IfErr, OnOk, OnErr, List, map, codes};
 ghost use Rattle.std.specs.Io.KnownBytes.{Appends};
 ghost use Rattle.mds_out.specs.Fault.{HasCause};
 ghost use Rattle.mds_out.specs.Stream.{TakesFront};
@@ -7,7 +7,9 @@ ghost use Rattle.simulation.specs.Fuses.{seen_by, images_by};
 ghost use Rattle.simulation.specs.Shows.{AreServers};
 ghost use Rattle.simulation.specs.Starts.{AreDisks};
 ghost use Rattle.world.specs.declared.state.ServerState.{ServerState};
+ghost use Rattle.interpreter.specs.Payments.{Pays};
 ghost use Rattle.mds_cli.specs.Ending.{CarriesAll, StopsCarryingAs};
+ghost use Rattle.mds_cli.specs.Stops.{fuses_armed, PaysLines, PaysStop};
 ghost use Rattle.mds_cli.specs.Streams.{streams};
 ghost use Rattle.mds_cli.specs.Turn.{CarriesOut, StopsCall, TakesTurn, StopsTurn, StopsWith, FinishesWith, status_of};
 
@@ -65,6 +67,14 @@ impl<D: Disk> Session<D> {
             (streams self.old.reader (S.left input.old) (K.taken output.old) self.old.interpreter.pending.items (S.faults input.old) (K.faults output.old))
             (streams self.new.reader (S.left input.new) (K.taken output.new) self.new.interpreter.pending.items (S.faults input.new) (K.faults output.new))
             self.old.interpreter.simulation self.new.interpreter.simulation) }
+        ensures paid { OnOk result (PaysLines D.faults
+            (streams self.old.reader (S.left input.old) (K.taken output.old) self.old.interpreter.pending.items (S.faults input.old) (K.faults output.old))
+            (streams self.new.reader (S.left input.new) (K.taken output.new) self.new.interpreter.pending.items (S.faults input.new) (K.faults output.new))
+            self.old.interpreter.simulation.stores self.new.interpreter.simulation.stores) }
+        ensures paid_so_far { IfErr result (λ status. PaysStop D.faults status
+            (streams self.old.reader (S.left input.old) (K.taken output.old) self.old.interpreter.pending.items (S.faults input.old) (K.faults output.old))
+            (streams self.new.reader (S.left input.new) (K.taken output.new) self.new.interpreter.pending.items (S.faults input.new) (K.faults output.new))
+            self.old.interpreter.simulation.stores self.new.interpreter.simulation.stores) }
         ensures setup { self.new.interpreter.simulation.setup ≡ self.old.interpreter.simulation.setup }
     {
         let mut number = 0;
@@ -95,6 +105,14 @@ impl<D: Disk> Session<D> {
             (streams self.old.reader (S.left input.old) (K.taken output.old) self.old.interpreter.pending.items (S.faults input.old) (K.faults output.old))
             (streams self.new.reader (S.left input.new) (K.taken output.new) self.new.interpreter.pending.items (S.faults input.new) (K.faults output.new))
             number self.old.interpreter.simulation self.new.interpreter.simulation) }
+        ensures paid { OnOk result (PaysLines D.faults
+            (streams self.old.reader (S.left input.old) (K.taken output.old) self.old.interpreter.pending.items (S.faults input.old) (K.faults output.old))
+            (streams self.new.reader (S.left input.new) (K.taken output.new) self.new.interpreter.pending.items (S.faults input.new) (K.faults output.new))
+            self.old.interpreter.simulation.stores self.new.interpreter.simulation.stores) }
+        ensures paid_so_far { IfErr result (λ status. PaysStop D.faults status
+            (streams self.old.reader (S.left input.old) (K.taken output.old) self.old.interpreter.pending.items (S.faults input.old) (K.faults output.old))
+            (streams self.new.reader (S.left input.new) (K.taken output.new) self.new.interpreter.pending.items (S.faults input.new) (K.faults output.new))
+            self.old.interpreter.simulation.stores self.new.interpreter.simulation.stores) }
         ensures setup { self.new.interpreter.simulation.setup ≡ self.old.interpreter.simulation.setup }
     {
         let found = match next_line(
@@ -125,6 +143,7 @@ impl<D: Disk> Session<D> {
         ensures ok { OnOk result (CarriesOut (seen_by D.seen) (images_by D.images) self.old.interpreter.simulation self.new.interpreter.simulation self.old.interpreter.pending.items self.new.interpreter.pending.items self.old.line.items number) }
         ensures err { IfErr result (λ status. StopsCall (seen_by D.seen) (images_by D.images) status self.old.interpreter.simulation self.new.interpreter.simulation self.old.interpreter.pending.items self.new.interpreter.pending.items self.old.line.items number) }
         ensures reader { self.new.reader ≡ self.old.reader }
+        ensures paid { Pays D.faults self.old.interpreter.simulation.stores self.new.interpreter.simulation.stores self.old.interpreter.pending.items self.new.interpreter.pending.items (fuses_armed (self.old.line.items ∷ [])) }
         ensures setup { self.new.interpreter.simulation.setup ≡ self.old.interpreter.simulation.setup }
     {
         let bytes = without_return(&self.line);
@@ -201,7 +220,8 @@ impl<D: Disk> Session<D> {
 impl<D: Disk + Drop> Session<D> {
     /// The disks, each at its place.
     pub(crate) fn into_disks(self) -> Vec<D>
-        ensures { (servers : List ServerState) → AreServers (seen_by D.seen) (images_by D.images) self.interpreter.simulation.setup self.interpreter.simulation.stores servers → AreDisks D.seen D.images self.interpreter.simulation.setup result.items servers }
+        ensures left { (servers : List ServerState) → AreServers (seen_by D.seen) (images_by D.images) self.interpreter.simulation.setup self.interpreter.simulation.stores servers → AreDisks D.seen D.images self.interpreter.simulation.setup result.items servers }
+        ensures same { result.items ≡ map (λ store. store.disk.inner) self.interpreter.simulation.stores }
     {
         let Session { interpreter, .. } = self;
         interpreter.into_disks()

@@ -12,6 +12,7 @@ ghost use Rattle.world.specs.Law.{PastRun};
 ghost use Rattle.mds_cli.specs.Ending.{IsNotBegun, outside};
 ghost use Rattle.mds_cli.specs.Run.{RunsOver, WholeScript, FirstBad, MeetsLimit, ReadsFront, SomeLines, StopsWithoutMemory, TookText, TookWhole, TookFrontOfText, TookFrontOfWhole};
 ghost use Rattle.mds_cli.specs.Scripts.{IsWithinLimits, Completes};
+ghost use Rattle.mds_cli.specs.Stops.{TextIsPaid};
 ghost use Rattle.mds_cli.specs.Turn.{HasRead};
 ghost use Rattle.mds_cli.specs.Words.{AsksFor};
 
@@ -82,6 +83,10 @@ pub fn giga_solo<S: Source, K: Sink, D: Disk + Drop>(
     ensures out_of_memory { result.status ≡ Status.OutOfMemory → (setup : Setup) → AsksFor (map (λ word. string_bytes word) words.now) setup
         → IsNotBegun D.seen D.images setup disks.items result.disks.items (outside (S.left input.old) (K.taken output.old) (S.faults input.old) (K.faults output.old)) (outside (S.left input.new) (K.taken output.new) (S.faults input.new) (K.faults output.new))
         ⊎ ((past : List PastRun) → AreReached D.seen D.images setup disks.items past → RunsOver D.seen D.images setup past result.disks.items (StopsWithoutMemory setup (S.left input.old) (TookFrontOfText (K.taken output.old) (K.taken output.new)))) }
+
+    // However the run ended: a server's device stopped it no more often, by the lines `stopped` of the bytes taken, than the
+    // count of its disk rose by and the script's lines `fuse` armed its fuse, unless that count stands at the greatest u64.
+    ensures paid { TextIsPaid D.faults disks.items result.disks.items (S.left input.old) (K.taken output.old) (K.taken output.new) }
 
     // No stream failed where the status is not its own; where there was no memory the output may have failed too.
     ensures no_read_fault { (result.status ≡ Status.ReadFault → ⊥) → (result.status ≡ Status.WriteFault → ⊥) → S.faults input.new ≡ S.faults input.old }

@@ -1,9 +1,15 @@
-use Rattle.std.proofs.Common.{arith}
+use Rattle.std.proofs.Common.{◌∙◌, sym, arith}
 use Rattle.simulation.specs.Fuses.{seen_by, images_by}
 use Rattle.mds_cli.specs.Ending.{outside}
 use Rattle.mds_cli.proofs.Opening.{ends_over}
+use Rattle.mds_cli.proofs.Paying.{text_paid}
 use Rattle.mds_cli.proofs.run.run.Goals as goal
 
 pub returns-in-Ok-open-clause-ends : goal.returns-in-Ok-open-clause-ends
 returns-in-Ok-open-clause-ends g c =
     ends_over (seen_by g.D.Disk.seen) (images_by g.D.Disk.images) g.D.Disk.faults g.D.Disk.seen g.D.Disk.images c.args.setup c.args.disks.items c.carry_script.result.disks.items (outside (g.S.Source.left c.args.input.now) (g.K.Sink.taken c.args.output.now) (g.S.Source.faults c.args.input.now) (g.K.Sink.faults c.args.output.now)) (outside (g.S.Source.left c.carry_script.new.input) (g.K.Sink.taken c.carry_script.new.output) (g.S.Source.faults c.carry_script.new.input) (g.K.Sink.faults c.carry_script.new.output)) c.in-Ok-open.simulation (omega (arith, c.requires.setup.some_server)) c.in-Ok-open.ensures.fresh.setup' c.in-Ok-open.ensures.begins c.laws_of_runs.ensures c.laws_of_pasts.ensures c.carry_script.result.status c.carry_script.ensures.ends
+
+pub returns-in-Ok-open-clause-paid : goal.returns-in-Ok-open-clause-paid
+returns-in-Ok-open-clause-paid g c =
+    text_paid g.D.Disk.faults c.args.disks.items c.carry_script.result.disks.items c.in-Ok-open.simulation.stores (c.in-Ok-open.ensures.servers ∙ sym c.requires.disks) (omega (arith, c.requires.disks, c.requires.setup.few_servers)) c.in-Ok-open.ensures.counts
+    (g.S.Source.left c.args.input.now) (g.K.Sink.taken c.args.output.now) (g.K.Sink.taken c.carry_script.new.output) c.carry_script.ensures.paid
