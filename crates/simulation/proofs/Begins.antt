@@ -6,6 +6,7 @@ use Rattle.std.proofs.lemmas.List.{length-map}
 use Rattle.std.specs.FinMap as maps
 use Rattle.std.specs.FinSet as set
 use Rattle.std.specs.Ordering.{nat_cmp}
+use Rattle.std.proofs.lemmas.Option.{same_Some}
 use Rattle.mds_base.specs.declared.setup.Setup.{Setup}
 use Rattle.mds_base.specs.Entries.{Entries}
 use Rattle.mds_out.specs.Disk.{Image, Contents}
@@ -70,9 +71,6 @@ record Begins (up : Option StoreV) (state : ServerState) : Type 0 where
   pub is_up : state.up ≡ true
   pub sure : state.doubt ≡ []
   pub store : up ≡ Some (store_of state)
-
-same_value : {X : Type 0} (x y : X) → Some x ≡ Some y → x ≡ y
-same_value x y e = cc
 
 module _ {D : Type 0} (seen : D → Contents) (images : D → Image → Type 0) (reads : ReadsAs seen images) (one : StandsForOne) (setup : Setup) (sim : SimulationV (Fused D)) (disks : List D) (up : Paired (IsUpOn seen images setup) 0 disks sim.stores) (fresh : IsFresh setup sim) where
   server_at : (s : ℕ) (disk : D) (store : Store (Fused D)) (state : ServerState) → is_some (seen disk 1) ≡ true → IsUpOn seen images setup s disk store → Begins store.up state → IsServer (seen_by seen) (images_by images) setup s store state
@@ -148,7 +146,7 @@ module _ {D : Type 0} (seen : D → Contents) (images : D → Image → Type 0) 
       let g = get_below sim.stores s (omega arith) in
       let f = found_at left are s state is g.0 g.1 in
       let closed : opened_store (cond f.0 (replayed_all (store_of state) state.doubt) (store_of state)) ≡ opened_store (store_of (closed_state f.0 state)) = ap opened_store (sym (closed_store f.0 state (sure.at s state is))) in
-      (f.0, λ store at. ap (λ (x : Store (Fused D)). x.up) (same_value store g.0 (sym at ∙ g.1)) ∙ f.1 ∙ ap (λ x. Some x) closed)
+      (f.0, λ store at. ap (λ (x : Store (Fused D)). x.up) (same_Some store g.0 (sym at ∙ g.1)) ∙ f.1 ∙ ap (λ x. Some x) closed)
 
   begins_closed : (keep : Bool) (state next : ServerState) (up : Option StoreV) → (state.up ≡ true → state.doubt ≡ []) → up ≡ Some (opened_store (store_of (closed_state keep state))) → closed_state keep state ≡ next → Begins up (opened next)
   begins_closed keep state next up sure is e = subst (λ (x : ServerState). Begins up (opened x)) e (record { is_up = closed_up keep state; sure = closed_sure keep state sure; store = is })
@@ -162,7 +160,7 @@ module _ {D : Type 0} (seen : D → Contents) (images : D → Image → Type 0) 
         let w = within (ended t keep).world.servers s x.0 x.1 in
         let n = c.count in
         let y = get_below t.world.servers s (omega arith) in
-        let e : closed_state (keep s) y.0 ≡ x.0 = same_value (closed_state (keep s) y.0) x.0 (sym (c.each.at s y.0 y.1) ∙ x.1) in
+        let e : closed_state (keep s) y.0 ≡ x.0 = same_Some (closed_state (keep s) y.0) x.0 (sym (c.each.at s y.0 y.1) ∙ x.1) in
         subst (Begins store.up) x.2 (begins_closed (keep s) y.0 x.0 store.up (sure.at s y.0 y.1) (all.at s y.0 y.1 store at) e);
   }
 

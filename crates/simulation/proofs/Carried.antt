@@ -1,13 +1,13 @@
 -- From what calls of the parts of a simulation gave to what its own calls say.
-use Rattle.std.proofs.Common.{◌≡◌, ◌∙◌, sym, ap, subst, refl, ℕ, zero, suc, ◌+◌, ◌-◌, ◌<◌, ◌≤◌, ◌^◌, ◌==◌, true, not, is_some, List, [], ◌∷◌, ◌++◌, length, get_or, Option, Some, None, Result, Ok, Err, IfOk, OnOk, OnErr, arith}
+use Rattle.std.proofs.Common.{◌≡◌, ◌∙◌, sym, ap, subst, refl, ℕ, zero, suc, ◌+◌, ◌-◌, ◌<◌, ◌≤◌, ◌^◌, true, not, is_some, List, [], ◌∷◌, ◌++◌, length, get_or, Option, Some, None, Result, Ok, Err, IfOk, OnOk, OnErr, arith}
 use Rattle.std.specs.Prelude.{slice_set}
 use Rattle.std.specs.List.{slice_get}
 use Rattle.std.specs.FinSet as set
 use Rattle.std.specs.Ordering.{nat_cmp}
 use Rattle.std.specs.declared.alloc.AllocError.{AllocError}
-use Rattle.std.proofs.lemmas.Bool.Decides.{nat_tests}
 use Rattle.std.proofs.lemmas.List.{length-append}
 use Rattle.std.proofs.lemmas.Option.{get_or_from_slice_get, slice_get_read}
+use Rattle.std.proofs.lemmas.Bool.{eq-eqb}
 use Rattle.mds_base.specs.declared.call.Call.{Call}
 use Rattle.mds_base.specs.declared.call.Call.TheVariants.{Create, Mkdir, Remove, Lookup, Setattr, Scan, Grab, Load, Link}
 use Rattle.mds_base.specs.declared.setup.Setup.{Setup}
@@ -160,15 +160,12 @@ send_place {X = X} was old sent' waiting waiting' (Ok place) msg same did = (
 )
 send_place was old sent' waiting waiting' (Err e) msg same did = tt
 
-same_number : (a b : ℕ) → a ≡ b → (a == b) ≡ true
-same_number a b e = grind (arith, nat_tests, e)
-
 request_stands : {X : Type 0} (sim : SimulationV X) (sent : List Msg) (client : ClientV) (seq attempt : ℕ) (call : Call) (number place : ℕ) → sim.sent ≡ sent ++ request_of client seq attempt call ∷ [] → place ≡ length sent → client.number ≡ number → IsSent sim.setup.servers (request_of client seq attempt call)
     → IsRequestAt sim number place
 request_stands sim sent client seq attempt call number place stands at numbered good =
     let here : slice_get sim.sent place ≡ Some (request_of client seq attempt call) = ap (λ l. slice_get l place) stands ∙ ap (slice_get (sent ++ request_of client seq attempt call ∷ [])) at ∙ get_last sent (request_of client seq attempt call) in
     record {
-      asks = ap (is_request_of number) here ∙ same_number client.number number numbered;
+      asks = ap (is_request_of number) here ∙ eq-eqb client.number number numbered;
       server = _;
       is = ap server_for here;
       there = good.0;

@@ -6,7 +6,7 @@ use Rattle.std.specs.Ordering.{eq_by_cmp}
 use Rattle.std.specs.Prelude.{map as list_map}
 use Rattle.mds_base.specs.declared.setup.Setup.{Setup}
 use Rattle.node_core.specs.declared.part.Part.{Part}
-use Rattle.node_core.specs.Nodes.{StoreV, PartKey, part_cmp, cleared_part, new_node}
+use Rattle.node_core.specs.Nodes.{StoreV, PartKey, part_cmp, cleared_part, new_node, parts_cleared}
 use Rattle.node_core.proofs.Views.{parts_total, exact_parts}
 use Rattle.node_store.specs.Stands.{new_store, opened_store}
 
@@ -25,10 +25,7 @@ find_cleared : (es : List (PartKey × Part)) (q : PartKey) → find part_cmp q (
 find_cleared [] q = refl
 find_cleared (e ∷ es) q = find_one (eq_by_cmp part_cmp q e.0) e.1 (find part_cmp q es) (find part_cmp q (list_map cleared_part es)) (find_cleared es q)
 
-abbrev cleared_parts : map.FinMap part_cmp Part → map.FinMap part_cmp Part
-cleared_parts parts = map.from_entries (list_map cleared_part (map.entries parts))
-
-get_cleared : (parts : map.FinMap part_cmp Part) (q : PartKey) → map.get (cleared_parts parts) q ≡ on_part (map.get parts q)
+get_cleared : (parts : map.FinMap part_cmp Part) (q : PartKey) → map.get (parts_cleared parts) q ≡ on_part (map.get parts q)
 get_cleared parts q =
     map.get-from_entries parts_total (list_map cleared_part (map.entries parts)) q
     ∙ find_cleared (map.entries parts) q ∙ ap on_part (sym (map.get-entries parts q))
@@ -37,12 +34,12 @@ on_part_twice : (o : Option Part) → on_part (on_part o) ≡ on_part o
 on_part_twice None = refl
 on_part_twice (Some part) = refl
 
-parts_twice : (parts : map.FinMap part_cmp Part) → cleared_parts (cleared_parts parts) ≡ cleared_parts parts
-parts_twice parts = map.same_map parts_total exact_parts (cleared_parts (cleared_parts parts)) (cleared_parts parts)
-    (λ q. get_cleared (cleared_parts parts) q ∙ ap on_part (get_cleared parts q) ∙ on_part_twice (map.get parts q) ∙ sym (get_cleared parts q))
+parts_twice : (parts : map.FinMap part_cmp Part) → parts_cleared (parts_cleared parts) ≡ parts_cleared parts
+parts_twice parts = map.same_map parts_total exact_parts (parts_cleared (parts_cleared parts)) (parts_cleared parts)
+    (λ q. get_cleared (parts_cleared parts) q ∙ ap on_part (get_cleared parts q) ∙ on_part_twice (map.get parts q) ∙ sym (get_cleared parts q))
 
-no_parts : cleared_parts map.empty ≡ map.empty
-no_parts = map.same_map parts_total exact_parts (cleared_parts map.empty) map.empty
+no_parts : parts_cleared map.empty ≡ map.empty
+no_parts = map.same_map parts_total exact_parts (parts_cleared map.empty) map.empty
     (λ q. get_cleared map.empty q ∙ ap on_part (map.get-empty part_cmp q) ∙ sym (map.get-empty part_cmp q))
 
 -- opened twice is opened once

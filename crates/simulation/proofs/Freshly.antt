@@ -1,5 +1,5 @@
 -- The numbers of a simulation in which nothing happened yet are within their ranges.
-use Rattle.std.proofs.Common.{◌≡◌, ◌∙◌, sym, ap, subst, refl, ℕ, zero, suc, ◌+◌, List, [], length, Some, arith}
+use Rattle.std.proofs.Common.{◌≡◌, ◌∙◌, sym, ap, subst, refl, ℕ, ◌+◌, List, [], length, arith}
 use Rattle.std.specs.Prelude.{map as list_map}
 use Rattle.std.specs.List.{slice_get, range_with_len}
 use Rattle.std.proofs.lemmas.List.FromFn.{length-map-range_with_len}
@@ -9,15 +9,10 @@ use Rattle.mds_out.specs.Fused.{Fused}
 use Rattle.client_core.specs.Clients.{ClientV, new_client}
 use Rattle.node_store.specs.Store.{Store}
 use Rattle.world.proofs.Grow.{within}
-use Rattle.world.proofs.Starts.{get_below}
+use Rattle.world.proofs.Starts.{get_below, ranged}
 use Rattle.simulation.specs.Openings.{Paired, IsUpOn}
 use Rattle.simulation.specs.Ranges.{IsSetup, IsSeat, AreRanges}
 use Rattle.simulation.proofs.Pairs.{paired_length, paired_at}
-
-ranged : {X : Type 0} (f : ℕ → X) (a n k : ℕ) (x : X) → slice_get (list_map f (range_with_len a n)) k ≡ Some x → f (a + k) ≡ x
-ranged f a zero k x e = cc
-ranged f a (suc n) zero x e = let s : f a ≡ x = cc in let z : a + 0 ≡ a = omega arith in ap f z ∙ s
-ranged f a (suc n) (suc k) x e = let z : a + suc k ≡ (a + 1) + k = omega arith in ap f z ∙ ranged f (a + 1) n k x e
 
 new_seat : (setup : Setup) (k : ℕ) → IsSeat setup 0 k (new_client (1 + k) setup)
 new_seat setup k = record { number = omega arith; setup' = refl; seq = omega arith; pending = tt }

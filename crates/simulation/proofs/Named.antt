@@ -3,9 +3,9 @@ use Rattle.std.proofs.Common.{◌≡◌, ◌∙◌, sym, ap, subst, refl, ℕ, z
 use Rattle.std.specs.Prelude.{◌||◌}
 use Rattle.std.specs.List.{slice_get}
 use Rattle.std.specs.FinSet as set
-use Rattle.std.proofs.lemmas.Bool.Decides.{nat_tests}
 use Rattle.std.proofs.lemmas.List.{length-append}
 use Rattle.std.proofs.lemmas.List.Folds.{list_any-append}
+use Rattle.std.proofs.lemmas.Bool.{eq-eqb, eqb-true}
 use Rattle.records.specs.declared.msg.Msg.{Msg}
 use Rattle.records.specs.declared.msg.Msg.TheVariants.{Request, Redirect, Answer, Busy, Held, Transfer, Installed}
 use Rattle.world.specs.declared.event.Event.{Event}
@@ -55,12 +55,6 @@ Await waiting sent events = (s k : ℕ) → set.contains waiting (s, k) ≡ (is_
 abbrev pub AreNamed : List Msg → List Event → Type 0
 AreNamed sent events = (place : ℕ) → is_named events place ≡ true → place < length sent
 
-same_number : (a b : ℕ) → (a == b) ≡ true → a ≡ b
-same_number a b e = grind (arith, nat_tests)
-
-number_itself : (a : ℕ) → (a == a) ≡ true
-number_itself a = grind (arith, nat_tests)
-
 module _ (waiting : set.FinSet waiting_cmp) (sent : List Msg) (events : List Event) (await : Await waiting sent events) (named : AreNamed sent events) where
   past_end : is_named events (length sent) ≡ false
   past_end = not_named events (length sent) (λ e. let h = named (length sent) e in omega (arith, h))
@@ -70,9 +64,9 @@ module _ (waiting : set.FinSet waiting_cmp) (sent : List Msg) (events : List Eve
 
   one_waits : (s server : ℕ) (b : Bool) → (server == s) ≡ b → set.contains (set.insert waiting (server, length sent)) (s, length sent) ≡ b
   one_waits s server true e =
-      subst (λ n. set.contains (set.insert waiting (server, length sent)) (n, length sent) ≡ true) (same_number server s e) (insert_here waiting_total exact_waiting waiting (server, length sent))
+      subst (λ n. set.contains (set.insert waiting (server, length sent)) (n, length sent) ≡ true) (eqb-true server s e) (insert_here waiting_total exact_waiting waiting (server, length sent))
   one_waits s server false e =
-      insert_apart waiting_total exact_waiting waiting (server, length sent) (s, length sent) (λ same. let h = ap (λ (p : ℕ × ℕ). p.0) same in let t = number_itself s in let u = ap (λ n. n == s) h in cc)
+      insert_apart waiting_total exact_waiting waiting (server, length sent) (s, length sent) (λ same. let h = ap (λ (p : ℕ × ℕ). p.0) same in let t = eq-eqb s s refl in let u = ap (λ n. n == s) h in cc)
       ∙ none_waits s
 
   await_end : (event : Event) (msg : Msg) (server : ℕ) → names (length sent) event ≡ false → server_for (Some msg) ≡ Some server → (s : ℕ)

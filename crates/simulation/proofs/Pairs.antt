@@ -2,11 +2,9 @@
 use Rattle.std.proofs.Common.{◌≡◌, ap, subst, refl, ℕ, zero, suc, ◌+◌, Bool, false, List, [], ◌∷◌, ◌++◌, length, Some, arith}
 use Rattle.std.specs.Prelude.{map as list_map}
 use Rattle.std.specs.List.{slice_get}
+use Rattle.std.proofs.lemmas.Option.{same_Some}
 use Rattle.world.specs.Lists.{Each}
 use Rattle.simulation.specs.Openings.{Paired}
-
-same_value : {X : Type 0} (x y : X) → Some x ≡ Some y → x ≡ y
-same_value x y e = cc
 
 pub paired_join : {X Y : Type 0} (P : ℕ → X → Y → Type 0) (s : ℕ) (xs more : List X) (ys others : List Y) → Paired P s xs ys → Paired P (s + length xs) more others → Paired P s (xs ++ more) (ys ++ others)
 paired_join P s [] more [] others p q = let z : s + 0 ≡ s = omega arith in subst (λ k. Paired P k more others) z q
@@ -32,7 +30,7 @@ paired_from P s [] ys p k x y ex ey = cc
 paired_from P s (u ∷ xs) [] p k x y ex ey = absurd p
 paired_from P s (u ∷ xs) (v ∷ ys) p zero x y ex ey =
     let z : s ≡ s + 0 = omega arith in
-    subst (λ k. P k x y) z (subst (P s x) (same_value v y ey) (subst (λ w. P s w v) (same_value u x ex) p.0))
+    subst (λ k. P k x y) z (subst (P s x) (same_Some v y ey) (subst (λ w. P s w v) (same_Some u x ex) p.0))
 paired_from P s (u ∷ xs) (v ∷ ys) p (suc k) x y ex ey =
     let z : (s + 1) + k ≡ s + suc k = omega arith in
     subst (λ j. P j x y) z (paired_from P (s + 1) xs ys p.1 k x y ex ey)
@@ -57,7 +55,7 @@ first_or first keep zero = first
 first_or first keep (suc k) = keep k
 
 chosen_at : {X : Type 0} (Q : ℕ → X → Bool → Type 0) (x : X) (xs : List X) (first : Bool) (keep : ℕ → Bool) → Q 0 x first → Each xs (λ k y. Q (suc k) y (keep k)) → (k : ℕ) (y : X) → slice_get (x ∷ xs) k ≡ Some y → Q k y (first_or first keep k)
-chosen_at Q x xs first keep h all zero y e = subst (λ z. Q 0 z first) (same_value x y e) h
+chosen_at Q x xs first keep h all zero y e = subst (λ z. Q 0 z first) (same_Some x y e) h
 chosen_at Q x xs first keep h all (suc k) y e = all.at k y e
 
 pub choose : {X : Type 0} (Q : ℕ → X → Bool → Type 0) (xs : List X) → Each xs (λ k x. (b : Bool) × Q k x b) → (keep : ℕ → Bool) × Each xs (λ k x. Q k x (keep k))

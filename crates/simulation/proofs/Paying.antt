@@ -1,5 +1,5 @@
 -- What a Serve and a restart say of the stops that they tell.
-use Rattle.std.proofs.Common.{◌≡◌, ◌∙◌, sym, ap, subst, refl, ℕ, ◌≤◌, is_some, List, [], ◌∷◌, Some, None, Result, Ok, Err}
+use Rattle.std.proofs.Common.{◌≡◌, sym, ap, subst, refl, ℕ, ◌≤◌, is_some, List, [], ◌∷◌, Some, None, Result, Ok, Err}
 use Rattle.std.specs.Prelude.{slice_set, IsErrAnd}
 use Rattle.std.specs.List.{slice_get}
 use Rattle.std.specs.declared.alloc.AllocError.{AllocError}

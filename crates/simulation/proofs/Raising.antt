@@ -3,6 +3,7 @@ use Rattle.std.proofs.Common.{◌≡◌, ◌∙◌, sym, ap, subst, refl, ℕ, s
 use Rattle.std.specs.Prelude.{map as list_map}
 use Rattle.std.specs.List.{slice_get}
 use Rattle.std.proofs.lemmas.List.{length-append}
+use Rattle.std.proofs.lemmas.Option.{same_Some}
 use Rattle.mds_base.specs.declared.setup.Setup.{Setup}
 use Rattle.mds_base.specs.declared.store_fault.StoreFault.{StoreFault}
 use Rattle.mds_out.specs.Disk.{Image, Contents}
@@ -56,9 +57,6 @@ get_next : {X : Type 0} (xs : List X) (x : X) (zs : List X) → slice_get (xs ++
 get_next [] x zs = refl
 get_next (y ∷ xs) x zs = get_next xs x zs
 
-same_value : {X : Type 0} (x y : X) → Some x ≡ Some y → x ≡ y
-same_value x y e = cc
-
 -- The counts of the disks
 
 pub counted_one : {D : Type 0} (seen : D → Contents) (images : D → Image → Type 0) (setup : Setup) (disks left rest : List D) (server : ℕ) (stores more : List (Store (Fused D))) (disk : D) (store : Store (Fused D)) → AreRaised seen images setup disks left server stores → left ≡ disk ∷ rest
@@ -68,7 +66,7 @@ counted_one seen images setup disks left rest server stores more disk store so f
   | inr h ↦
       let at : slice_get disks s ≡ Some disk =
       ap (slice_get disks) (h.0 ∙ raised_count seen images setup disks left server stores so ∙ so.count) ∙ ap (λ d. slice_get d (length so.done)) (sym so.split ∙ ap (λ l. so.done ++ l) first) ∙ get_next so.done disk rest in
-      subst (IsCounted faults x) h.1 (subst (λ v. IsCounted faults v store) (same_value disk x (sym at ∙ there)) one)
+      subst (IsCounted faults x) h.1 (subst (λ v. IsCounted faults v store) (same_Some disk x (sym at ∙ there)) one)
 ]
 
 -- The disks where a server was refused
@@ -118,7 +116,7 @@ module _ {D : Type 0} (seen : D → Contents) (images : D → Image → Type 0) 
     within = (let n = raised_below seen images setup disks left rest server stores disk so first in omega arith);
     later = λ s lt. later_at s (s - (server + 1)) (omega (arith, lt));
     cause = λ before now was is.
-        let old : disk ≡ before = same_value disk before (sym (get_next so.done disk rest) ∙ ap (slice_get (so.done ++ disk ∷ rest)) (sym so.count) ∙ ap (λ d. slice_get d server) whole ∙ was) in
-        let got : new ≡ now = same_value new now (sym (get_next front new rest) ∙ ap (slice_get (front ++ new ∷ rest)) front_length ∙ ap (λ b. slice_get b server) (sym all) ∙ is) in
+        let old : disk ≡ before = same_Some disk before (sym (get_next so.done disk rest) ∙ ap (slice_get (so.done ++ disk ∷ rest)) (sym so.count) ∙ ap (λ d. slice_get d server) whole ∙ was) in
+        let got : new ≡ now = same_Some new now (sym (get_next front new rest) ∙ ap (slice_get (front ++ new ∷ rest)) front_length ∙ ap (λ b. slice_get b server) (sym all) ∙ is) in
         subst (λ x. IsOpenFault faults seen setup server x now fault) old (subst (λ x. IsOpenFault faults seen setup server disk x fault) got cause);
   }

@@ -1,10 +1,9 @@
 -- A server is restarted.
-use Rattle.std.proofs.Common.{◌≡◌, ◌∙◌, sym, ap, subst, refl, ℕ, ◌+◌, ◌==◌, not, Bool, true, false, is_some, List, [], ◌∷◌, ◌++◌, length, take, Option, Some, None, inl, inr, arith, append_assoc}
+use Rattle.std.proofs.Common.{◌≡◌, ◌∙◌, sym, ap, subst, refl, ℕ, ◌+◌, not, Bool, true, false, is_some, List, [], ◌∷◌, ◌++◌, length, take, Option, Some, None, inl, inr, append_assoc}
 use Rattle.std.specs.Prelude.{◌||◌, slice_set}
 use Rattle.std.specs.Prelude.{map as list_map}
 use Rattle.std.specs.List.{slice_get}
-use Rattle.std.proofs.lemmas.Bool.{and_from, and_parts}
-use Rattle.std.proofs.lemmas.Bool.Decides.{nat_tests}
+use Rattle.std.proofs.lemmas.Bool.{and_from, and_parts, eq-eqb}
 use Rattle.std.proofs.lemmas.List.{append-nil, map-append}
 use Rattle.std.proofs.lemmas.List.Elements.{filter_map-append}
 use Rattle.mds_base.specs.declared.setup.Setup.{Setup}
@@ -31,6 +30,7 @@ use Rattle.simulation.specs.Stores.{IsRestarted, IsDownStill}
 use Rattle.simulation.specs.Shows.{SimulationV, Shows, Happens, StaysNear, IsServer, AreServers, made_of}
 use Rattle.simulation.proofs.Named.{await_same, still_named}
 use Rattle.simulation.proofs.Showing.{goes_on, one_longer}
+use Rattle.simulation.proofs.Stopping.{halted_by}
 use Rattle.simulation.proofs.Standing.{IsDownAs, as_down, server_of, servers_set}
 
 -- The entries of the records that were kept
@@ -78,9 +78,6 @@ pub kept_follow : (store : StoreV) (items : List Record) (kept : ℕ) → IsAllO
 kept_follow store items kept (inl none) follow = ap (λ k. all_follow store (take k items)) none ∙ take_none store items
 kept_follow store items kept (inr all) follow = ap (λ k. all_follow store (take k items)) all ∙ ap (all_follow store) (take_all items) ∙ follow
 
-same_number : (a b : ℕ) → a ≡ b → (a == b) ≡ true
-same_number a b e = grind (arith, nat_tests)
-
 or_second : (a b : Bool) → b ≡ true → (a || b) ≡ true
 or_second true b e = refl
 or_second false b e = e
@@ -90,16 +87,12 @@ or_first true b e = refl
 or_first false b e = cc
 
 may_restart : (state : ServerState) (kept : ℕ) → state.up ≡ false → IsAllOrNone kept (length state.doubt) → can_restart (Some state) kept ≡ true
-may_restart state kept down (inl none) = and_from _ _ (ap not down) (or_first _ _ (same_number kept 0 none))
-may_restart state kept down (inr all) = and_from _ _ (ap not down) (or_second _ _ (same_number kept (length state.doubt) all))
+may_restart state kept down (inl none) = and_from _ _ (ap not down) (or_first _ _ (eq-eqb kept 0 none))
+may_restart state kept down (inr all) = and_from _ _ (ap not down) (or_second _ _ (eq-eqb kept (length state.doubt) all))
 
 -- the simulation once a server was restarted, and kept so many of its records in doubt
 abbrev pub restarted_by : {X : Type 0} → SimulationV X → ℕ → Store X → List Record → SimulationV X
 restarted_by old server store kept = record old { count = old.count + 1; stores = slice_set old.stores server store; made = old.made ++ changes_of kept }
-
--- the simulation once a restart found the device failing
-abbrev pub failed_by : {X : Type 0} → SimulationV X → ℕ → Store X → SimulationV X
-failed_by old server store = record old { count = old.count + 1; stores = slice_set old.stores server store }
 
 module _ {X : Type 0} (seen : X → Contents) (images : X → Image → Type 0) (setup : Setup) (number : ℕ) (old new : Store X) (state : ServerState) (i : IsServer seen images setup number old state) (d : IsDownAs seen images old state) where
   restarted_server : (kept now : ℕ) → IsRestarted seen images old new kept now → IsServer seen images setup number new (up_with state (restarted (replayed_all (store_of state) (take kept state.doubt)) now))
@@ -152,12 +145,12 @@ module _ {X : Type 0} (seen : X → Contents) (images : X → Image → Type 0) 
         taken = λ q. shows.taken q ∙ sym (ap (λ a. is_taken a q) (kept_answered run.trace.past (store_of h.state) (take kept h.state.doubt)));
       })
 
-  pub fail_happens : IsDownStill seen images store new → Happens seen images old (failed_by old server new) (Stop server Device)
+  pub fail_happens : IsDownStill seen images store new → Happens seen images old (halted_by old server new) (Stop server Device)
   fail_happens s run shows =
       let h = server_of seen images old.setup old.stores run.trace.world.servers server store shows.servers is in
       let d = as_down seen images old.setup server store h.state h.good is_down in
       let left : ServerState = record { node = h.state.node; rows = h.state.rows; up = false; doubt = h.state.doubt } in
-      goes_on run (Stop server Device) (set_server run.trace.world server left) run.trace.past (Shows seen images (failed_by old server new))
+      goes_on run (Stop server Device) (set_server run.trace.world server left) run.trace.past (Shows seen images (halted_by old server new))
       (ap events.is_there h.is)
       (ap (events.after_stop run.trace.world server) h.is)
       refl

@@ -1,10 +1,9 @@
 -- A client sends its call, for the first time or again.
-use Rattle.std.proofs.Common.{◌≡◌, ◌∙◌, sym, ap, subst, refl, ℕ, ◌+◌, ◌<◌, ◌^◌, not, true, false, [], ◌∷◌, ◌++◌, length, Option, Some, None, arith}
-use Rattle.std.specs.Prelude.{nat_lt, slice_set}
+use Rattle.std.proofs.Common.{◌≡◌, ◌∙◌, sym, ap, subst, refl, ℕ, ◌+◌, ◌<◌, ◌^◌, not, true, false, [], ◌∷◌, ◌++◌, length, Option, Some, None}
+use Rattle.std.specs.Prelude.{slice_set}
 use Rattle.std.specs.Prelude.{map as list_map}
 use Rattle.std.specs.FinSet as set
-use Rattle.std.proofs.lemmas.Bool.{and_from}
-use Rattle.std.proofs.lemmas.Bool.Decides.{nat_tests}
+use Rattle.std.proofs.lemmas.Bool.{and_from, lt-ltb}
 use Rattle.mds_base.specs.declared.call.Call.{Call}
 use Rattle.mds_out.specs.Disk.{Image, Contents}
 use Rattle.records.specs.declared.msg.Msg.{Msg}
@@ -40,19 +39,16 @@ sent_by old k client msg =
       taken = old.taken;
     }
 
-is_below : (a b : ℕ) → a < b → nat_lt a b ≡ true
-is_below a b e = grind (arith, nat_tests)
-
 may_issue : (seat : ClientState) (call : Call) → seat.quit ≡ false → seat.client.pending ≡ None → seat.client.seq < 2 ^ 63 → is_call call ≡ true → can_issue (Some seat) call ≡ true
 may_issue seat call going idle few served =
-    and_from _ _ (and_from _ _ (ap not going) (ap (λ p. not (is_open p)) idle)) (and_from _ _ (is_below seat.client.seq (2 ^ 63) few) served)
+    and_from _ _ (and_from _ _ (ap not going) (ap (λ p. not (is_open p)) idle)) (and_from _ _ (lt-ltb seat.client.seq (2 ^ 63) few) served)
 
 room_in : (p : Option Pending) (pending : Pending) → p ≡ Some pending → pending.attempt < 2 ^ 31 → has_room p ≡ true
-room_in p pending is few = ap has_room is ∙ is_below pending.attempt (2 ^ 31) few
+room_in p pending is few = ap has_room is ∙ lt-ltb pending.attempt (2 ^ 31) few
 
 may_resend : (seat : ClientState) (pending : Pending) → seat.quit ≡ false → seat.client.pending ≡ Some pending → seat.client.seq < 2 ^ 63 → pending.attempt < 2 ^ 31 → can_resend (Some seat) ≡ true
 may_resend seat pending going busy few room =
-    and_from _ _ (and_from _ _ (ap not going) (ap is_open busy)) (and_from _ _ (is_below seat.client.seq (2 ^ 63) few) (room_in seat.client.pending pending busy room))
+    and_from _ _ (and_from _ _ (ap not going) (ap is_open busy)) (and_from _ _ (lt-ltb seat.client.seq (2 ^ 63) few) (room_in seat.client.pending pending busy room))
 
 module _ {X : Type 0} (seen : X → Contents) (images : X → Image → Type 0) (old : SimulationV X) (run : RunV) (shows : Shows seen images old run) where
   -- the run with an event by which a client changed and sent a request

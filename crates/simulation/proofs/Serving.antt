@@ -3,8 +3,7 @@ use Rattle.std.proofs.Common.{◌≡◌, ◌∙◌, sym, ap, subst, refl, ℕ, z
 use Rattle.std.specs.Prelude.{◌||◌, slice_set}
 use Rattle.std.specs.List.{slice_get}
 use Rattle.std.specs.FinSet as set
-use Rattle.std.proofs.lemmas.Bool.{and_from}
-use Rattle.std.proofs.lemmas.Bool.Decides.{nat_tests}
+use Rattle.std.proofs.lemmas.Bool.{and_from, eq-eqb, ne_eqb}
 use Rattle.std.proofs.lemmas.List.{append-nil, length-append}
 use Rattle.std.proofs.lemmas.List.Folds.{list_any-append}
 use Rattle.mds_base.specs.declared.setup.Setup.{Setup}
@@ -37,12 +36,6 @@ use Rattle.simulation.proofs.Standing.{IsUpAs, as_up, server_of, servers_set}
 
 -- which messages wait once one was served
 
-number_itself : (a : ℕ) → (a == a) ≡ true
-number_itself a = grind (arith, nat_tests)
-
-number_apart : (a b : ℕ) → (a ≡ b → ⊥) → (b == a) ≡ false
-number_apart a b differ = grind (arith, nat_tests, differ)
-
 or_last : (a b c : Bool) → b ≡ c → (a || ((b || false) || false)) ≡ (a || c)
 or_last true b c e = refl
 or_last false true c e = e
@@ -74,13 +67,13 @@ module _ (waiting : set.FinSet waiting_cmp) (sent : List Msg) (events : List Eve
   await_here : (outputs : List Msg) (s : ℕ) → (b : Bool) → is_for_server s (slice_get (sent ++ outputs) place) ≡ b → set.contains (set.remove waiting (server, place)) (s, place) ≡ false
       → set.contains (set.remove waiting (server, place)) (s, place) ≡ (is_for_server s (slice_get (sent ++ outputs) place) && not (is_named (events ++ Serve server (place ∷ []) how ∷ []) place))
   await_here outputs s b e gone =
-      gone ∙ sym (ap (λ n. is_for_server s (slice_get (sent ++ outputs) place) && not n) (named_one events server place place how true (number_itself place) ∙ or_true (is_named events place)) ∙ and_false _)
+      gone ∙ sym (ap (λ n. is_for_server s (slice_get (sent ++ outputs) place) && not n) (named_one events server place place how true (eq-eqb place place refl) ∙ or_true (is_named events place)) ∙ and_false _)
 
   gone_here : (s : ℕ) (msg : Msg) → slice_get sent place ≡ Some msg → server_for (Some msg) ≡ Some server → set.contains (set.remove waiting (server, place)) (s, place) ≡ false
   gone_here s msg there is = elim (number_or_apart s server) [
     | inl same ↦ subst (λ n. set.contains (set.remove waiting (server, place)) (n, place) ≡ false) (sym same) (remove_here waiting_total exact_waiting waiting (server, place))
     | inr differ ↦ remove_apart waiting_total exact_waiting waiting (server, place) (s, place) (λ same. differ (ap (λ (p : ℕ × ℕ). p.0) same))
-        ∙ await s place ∙ ap (λ o. is_for_server s o && not (is_named events place)) there ∙ ap (λ b. b && not (is_named events place)) (for_server s server msg is ∙ number_apart s server differ)
+        ∙ await s place ∙ ap (λ o. is_for_server s o && not (is_named events place)) there ∙ ap (λ b. b && not (is_named events place)) (for_server s server msg is ∙ ne_eqb server s (λ e. differ (sym e)))
   ]
 
   pub await_served : (msg : Msg) (outputs : List Msg) → slice_get sent place ≡ Some msg → server_for (Some msg) ≡ Some server → ((s k : ℕ) → is_for_server s (slice_get outputs k) ≡ false)
@@ -91,7 +84,7 @@ module _ (waiting : set.FinSet waiting_cmp) (sent : List Msg) (events : List Eve
     | inr differ ↦ remove_apart waiting_total exact_waiting waiting (server, place) (s, k) (λ same. differ (ap (λ (p : ℕ × ℕ). p.1) same))
         ∙ await s k
         ∙ sym (ap (λ b. b && not (is_named (events ++ Serve server (place ∷ []) how ∷ []) k)) (sent_for s sent outputs (none s) k)
-        ∙ ap (λ n. is_for_server s (slice_get sent k) && not n) (named_one events server place k how false (number_apart k place differ) ∙ or_false (is_named events k)))
+        ∙ ap (λ n. is_for_server s (slice_get sent k) && not n) (named_one events server place k how false (ne_eqb place k (λ e. differ (sym e))) ∙ or_false (is_named events k)))
   ]
 
   pub named_served : (msg : Msg) (outputs : List Msg) → slice_get sent place ≡ Some msg → AreNamed (sent ++ outputs) (events ++ Serve server (place ∷ []) how ∷ [])
@@ -100,7 +93,7 @@ module _ (waiting : set.FinSet waiting_cmp) (sent : List Msg) (events : List Eve
       elim (number_or_apart k place) [
         | inl same ↦ let below = within sent place msg there in omega (arith, below, same, all)
         | inr differ ↦
-            let below = named k (sym (named_one events server place k how false (number_apart k place differ) ∙ or_false (is_named events k)) ∙ e) in
+            let below = named k (sym (named_one events server place k how false (ne_eqb place k (λ e. differ (sym e))) ∙ or_false (is_named events k)) ∙ e) in
             omega (arith, below, all)
       ]
 
@@ -153,7 +146,7 @@ can_serve_up state up u numbers = and_from _ _ u.running (ap (λ (s : StoreV). h
 may_serve : (servers : List ServerState) (sent : List Msg) (server place : ℕ) (state : ServerState) (msg : Msg) → slice_get servers server ≡ Some state → slice_get sent place ≡ Some msg → server_for (Some msg) ≡ Some server
     → can_serve (Some state) ≡ true → (can_serve (slice_get servers server) && (true && (is_for_server server (slice_get sent place) && true))) ≡ true
 may_serve servers sent server place state msg at there is can =
-    and_from _ _ (ap can_serve at ∙ can) (and_from _ _ (ap (is_for_server server) there ∙ for_server server server msg is ∙ number_itself server) refl)
+    and_from _ _ (ap can_serve at ∙ can) (and_from _ _ (ap (is_for_server server) there ∙ for_server server server msg is ∙ eq-eqb server server refl) refl)
 
 module _ {X : Type 0} (seen : X → Contents) (images : X → Image → Type 0) (setup : Setup) (number : ℕ) (old new : Store X) (state : ServerState) (up : StoreV) (i : IsServer seen images setup number old state) (u : IsUpAs state up) where
   served_server : (next : StoreV) → IsServedStore seen old new next → IsServer seen images setup number new (with_store state next)

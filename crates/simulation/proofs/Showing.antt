@@ -1,8 +1,7 @@
 -- A simulation shows a run with one event more.
-use Rattle.std.proofs.Common.{◌≡◌, ◌∙◌, sym, ap, subst, refl, ℕ, ◌+◌, ◌<◌, ◌^◌, true, List, [], ◌∷◌, ◌++◌, length, inl, arith}
-use Rattle.std.specs.Prelude.{nat_lt}
-use Rattle.std.proofs.lemmas.Bool.Decides.{nat_tests}
+use Rattle.std.proofs.Common.{◌≡◌, ◌∙◌, sym, ap, subst, refl, ℕ, ◌+◌, ◌<◌, ◌^◌, true, List, [], ◌∷◌, ◌++◌, length, inl}
 use Rattle.std.proofs.lemmas.List.{length-append}
+use Rattle.std.proofs.lemmas.Bool.{lt-ltb}
 use Rattle.mds_out.specs.Disk.{Image, Contents}
 use Rattle.world.specs.declared.event.Event.{Event}
 use Rattle.world.specs.declared.event.Event.TheVariants.{Tick}
@@ -28,9 +27,6 @@ goes_on run event w h P may world past holds = record {
 pub one_longer : (events : List Event) (event : Event) (count : ℕ) → length events ≡ count → length (events ++ event ∷ []) ≡ count + 1
 one_longer events event count e = length-append events (event ∷ []) ∙ ap (λ n. n + 1) e
 
-is_below : (a b : ℕ) → a < b → nat_lt a b ≡ true
-is_below a b e = grind (arith, nat_tests)
-
 module _ {X : Type 0} (seen : X → Contents) (images : X → Image → Type 0) where
   -- from the parts of a simulation to its value
   pub happens_from : (was old new : SimulationV X) (event : Event) → was ≡ old → Happens seen images was new event → Happens seen images old new event
@@ -43,7 +39,7 @@ module _ {X : Type 0} (seen : X → Contents) (images : X → Image → Type 0) 
   pub ticked : (old : SimulationV X) (by : ℕ) → old.moment + by < 2 ^ 43 → Happens seen images old (record old { moment = old.moment + by; count = old.count + 1 }) (Tick by)
   ticked old by below run shows =
       goes_on run (Tick by) (record run.trace.world { now = run.trace.world.now + by }) run.trace.past (Shows seen images (record old { moment = old.moment + by; count = old.count + 1 }))
-      (is_below (run.trace.world.now + by) (2 ^ 43) (subst (λ n. n + by < 2 ^ 43) (sym shows.moment) below)) refl refl
+      (lt-ltb (run.trace.world.now + by) (2 ^ 43) (subst (λ n. n + by < 2 ^ 43) (sym shows.moment) below)) refl refl
       (record {
         setup = shows.setup;
         moment = ap (λ n. n + by) shows.moment;

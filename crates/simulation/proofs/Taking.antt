@@ -1,13 +1,12 @@
 -- A client takes a message.
-use Rattle.std.proofs.Common.{◌≡◌, ◌∙◌, sym, ap, subst, refl, ℕ, ◌+◌, ◌<◌, ◌^◌, ◌==◌, Bool, true, false, List, [], ◌∷◌, ◌++◌, Option, Some, None, inl, inr, arith}
-use Rattle.std.specs.Prelude.{nat_lt, slice_set, ◌||◌}
+use Rattle.std.proofs.Common.{◌≡◌, ◌∙◌, sym, ap, subst, refl, ℕ, ◌+◌, ◌<◌, ◌^◌, ◌==◌, Bool, true, false, List, [], ◌∷◌, ◌++◌, Option, Some, None, inl, inr}
+use Rattle.std.specs.Prelude.{slice_set, ◌||◌}
 use Rattle.std.specs.Prelude.{map as list_map}
 use Rattle.std.specs.List.{slice_get}
 use Rattle.std.specs.Cmp.{nat_cmp_total}
 use Rattle.std.specs.FinSet as set
 use Rattle.std.specs.Ordering.{nat_cmp}
-use Rattle.std.proofs.lemmas.Bool.{and_from}
-use Rattle.std.proofs.lemmas.Bool.Decides.{nat_tests}
+use Rattle.std.proofs.lemmas.Bool.{and_from, eq-eqb, ne_eqb, lt-ltb}
 use Rattle.std.proofs.lemmas.List.Folds.{list_any-append}
 use Rattle.std.proofs.lemmas.Map.Lookups.{exact_unsigned}
 use Rattle.mds_out.specs.Disk.{Image, Contents}
@@ -66,12 +65,6 @@ take_made h number client place msg (Some pending) = answer_made h number client
 abbrev Notes : set.FinSet nat_cmp → List AnsweredV → Type 0
 Notes places answered = (q : ℕ) → set.contains places q ≡ is_taken answered q
 
-number_itself : (a : ℕ) → (a == a) ≡ true
-number_itself a = grind (arith, nat_tests)
-
-number_apart : (a b : ℕ) → (a ≡ b → ⊥) → (b == a) ≡ false
-number_apart a b differ = grind (arith, nat_tests, differ)
-
 or_true : (a b : Bool) → b ≡ true → true ≡ (a || (b || false))
 or_true true b e = refl
 or_true false b e = ap (λ x. x || false) (sym e)
@@ -83,9 +76,9 @@ or_false false b e = ap (λ x. x || false) (sym e)
 noted_one : (places : set.FinSet nat_cmp) (answered : List AnsweredV) (a : AnsweredV) → Notes places answered → Notes (set.insert places a.place) (answered ++ a ∷ [])
 noted_one places answered a notes q = elim (number_or_apart q a.place) [
   | inl same ↦ subst (λ n. set.contains (set.insert places a.place) n ≡ is_taken (answered ++ a ∷ []) n) (sym same)
-      (insert_here nat_cmp_total exact_unsigned places a.place ∙ or_true (is_taken answered a.place) (a.place == a.place) (number_itself a.place)
+      (insert_here nat_cmp_total exact_unsigned places a.place ∙ or_true (is_taken answered a.place) (a.place == a.place) (eq-eqb a.place a.place refl)
       ∙ sym (list_any-append (λ (b : AnsweredV). b.place == a.place) answered (a ∷ [])))
-  | inr differ ↦ insert_apart nat_cmp_total exact_unsigned places a.place q differ ∙ notes q ∙ or_false (is_taken answered q) (a.place == q) (number_apart q a.place differ)
+  | inr differ ↦ insert_apart nat_cmp_total exact_unsigned places a.place q differ ∙ notes q ∙ or_false (is_taken answered q) (a.place == q) (ne_eqb a.place q (λ e. differ (sym e)))
       ∙ sym (list_any-append (λ (b : AnsweredV). b.place == q) answered (a ∷ []))
 ]
 
@@ -104,12 +97,9 @@ noted_take : (h : History) (number : ℕ) (client : ClientV) (place : ℕ) (msg 
 noted_take h number client place msg None places notes = notes
 noted_take h number client place msg (Some pending) places notes = noted_answer h number client pending place (taking.take_pending client pending msg).taken places notes
 
-is_below : (a b : ℕ) → a < b → nat_lt a b ≡ true
-is_below a b e = grind (arith, nat_tests)
-
 has_room_of : (p : Option Pending) → HasRoom p → has_room p ≡ true
 has_room_of None room = refl
-has_room_of (Some pending) room = is_below pending.attempt (2 ^ 31) room
+has_room_of (Some pending) room = lt-ltb pending.attempt (2 ^ 31) room
 
 module _ {X : Type 0} (seen : X → Contents) (images : X → Image → Type 0) (old : SimulationV X) (run : RunV) (shows : Shows seen images old run) where
   taken_at : (number place : ℕ) (seat : ClientState) (msg : Msg) → seat_at run.trace.world.clients number ≡ Some seat → seat.quit ≡ false → slice_get old.sent place ≡ Some msg → is_for_client number (Some msg) ≡ true
@@ -121,7 +111,7 @@ module _ {X : Type 0} (seen : X → Contents) (images : X → Image → Type 0) 
       (set_client run.trace.world number (with_client seat (taking.take seat.client msg).client))
       (past.after_take_of run.trace.past number seat.client place msg seat.client.pending)
       (Shows seen images (taken_by old (index_of number) (taking.take seat.client msg) place))
-      (and_from _ _ (ap can_take is ∙ and_from _ _ (is_below seat.client.seq (2 ^ 63) few) (has_room_of seat.client.pending room)) (ap (is_for_client number) sent ∙ meant))
+      (and_from _ _ (ap can_take is ∙ and_from _ _ (lt-ltb seat.client.seq (2 ^ 63) few) (has_room_of seat.client.pending room)) (ap (is_for_client number) sent ∙ meant))
       (ap (events.after_take run.trace.world number (slice_get run.trace.world.sent place)) is ∙ ap (events.after_take_of run.trace.world number seat) sent)
       (ap (λ m. past.after_take run.trace.past number place m (seat_at run.trace.world.clients number)) sent ∙ ap (past.after_take run.trace.past number place (Some msg)) is)
       (record {
