@@ -1,6 +1,6 @@
 -- One event: what was carried out, or why not.
 use Rattle.std.proofs.Common.{◌≡◌, ◌∙◌, sym, ap, subst, refl, ℕ, ◌+◌, ◌<◌, ◌≤◌, ◌^◌, Bool, true, false, List, [], ◌∷◌, ◌++◌, length, Option, Some, None, Result, Ok, Err, inl, inr, arith}
-use Rattle.std.specs.Prelude.{OnOk, IfErr, IsErrAnd, nat_lt, codes}
+use Rattle.std.specs.Prelude.{OnOk, IfErr, nat_lt, codes}
 use Rattle.std.specs.List.{slice_get}
 use Rattle.std.proofs.lemmas.Bool.Decides.{nat_tests}
 use Rattle.std.proofs.lemmas.List.{append-nil}
@@ -27,11 +27,6 @@ use Rattle.interpreter.specs.Story.{IsDelivered, IsDeliveredAt, IsDelivery, IsRe
 use Rattle.interpreter.specs.Text.{server_line}
 use Rattle.interpreter.proofs.Sights.{seen_up, seen_numbers, seen_msg}
 use Rattle.interpreter.proofs.Stepping.{goes_one, halts_limit, halts_near, halts_unprinted}
-
--- what a result that is this error says of its error
-pub err_at : {T E : Type 0} (r : Result T E) (e : E) (P : E → Type 0) → IsErrAnd r (λ x. x ≡ e) → P e → IfErr r P
-err_at (Ok x) e P is p = tt
-err_at (Err x) e P is p = subst P (sym is) p
 
 -- what a result says may be weakened
 pub on_ok : {T E P Q : Type 0} (r : Result T E) → OnOk r P → (P → Q) → OnOk r Q

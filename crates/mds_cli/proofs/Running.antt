@@ -10,6 +10,7 @@ use Rattle.mds_out.specs.Disk.{Image, Contents}
 use Rattle.mds_out.specs.Fault.{Rose}
 use Rattle.mds_out.specs.Known.{OnKnown, OnTold}
 use Rattle.mds_out.specs.Stream.{TakesFront}
+use Rattle.script.specs.Words.{onto_first}
 use Rattle.simulation.specs.Runs.{RunV}
 use Rattle.simulation.specs.Shows.{SimulationV, Shows, AreServers}
 use Rattle.simulation.specs.Starts.{AreDisks}
@@ -18,7 +19,7 @@ use Rattle.world.specs.declared.state.ServerState.{ServerState}
 use Rattle.interpreter.specs.EventText.{events_text, effects_text}
 use Rattle.interpreter.specs.Story.{grown_by}
 use Rattle.mds_cli.specs.Ending.{CarriesAll, CarriesRunOut, StopsSo, StopsCarryingAs, EndsSo, EndsRun, EndsRunAs, HasEnded, IsEnded, OnItsWay, FrontOnItsWay, outside}
-use Rattle.mds_cli.specs.Lines.{lines_of, ended_lines, onto_first, onto_ended}
+use Rattle.mds_cli.specs.Lines.{lines_of, ended_lines, onto_ended}
 use Rattle.mds_cli.specs.Run.{BeginsBad, BeginsAllowed, BeginsWith, SomeLines, MeetsLimit, TookText, TookFrontOfText, TookFrontOfWhole, run_text}
 use Rattle.mds_cli.specs.Streams.{Streams, streams, Flows}
 use Rattle.mds_cli.specs.Turn.{StopsWith, StopsBroken, StaysWithout, FinishesWith, FinishesDone, FinishesBroken}

@@ -3,7 +3,8 @@ use Rattle.std.proofs.Common.{◌≡◌, ◌∙◌, sym, ap, refl, ℕ, ◌≤�
 use Rattle.std.specs.Prelude.{◌==◌}
 use Rattle.std.specs.List.{AllByRecursion}
 use Rattle.std.proofs.lemmas.Bool.{and_parts}
-use Rattle.mds_cli.specs.Lines.{IsPart, lines_of, ended_lines, onto_first, onto_ended}
+use Rattle.script.specs.Words.{onto_first}
+use Rattle.mds_cli.specs.Lines.{IsPart, lines_of, ended_lines, onto_ended}
 
 -- lines, each with its line feed
 abbrev pub with_feeds : List (List ℕ) → List ℕ

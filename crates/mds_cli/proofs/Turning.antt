@@ -1,6 +1,6 @@
 -- One turn of a run: a line is read, and carried out.
-use Rattle.std.proofs.Common.{◌≡◌, ◌∙◌, sym, ap, subst, refl, ℕ, ◌+◌, ◌≤◌, List, [], ◌∷◌, ◌++◌, length, take, arith, Option, Some, None, Result, Ok, Err, IfErr, append_assoc, length-append, inl, inr}
-use Rattle.std.specs.Prelude.{IsErrAnd, ◌⊎◌}
+use Rattle.std.proofs.Common.{◌≡◌, ◌∙◌, sym, ap, subst, refl, ℕ, ◌+◌, ◌≤◌, List, [], ◌∷◌, ◌++◌, length, take, arith, Option, Some, None, append_assoc, length-append, inl, inr}
+use Rattle.std.specs.Prelude.{◌⊎◌}
 use Rattle.std.specs.Io.KnownBytes.{Consumes, Appends, Keeps, prepend_known}
 use Rattle.std.proofs.lemmas.List.{append-nil, take-append-le, drop-append-le}
 use Rattle.std.proofs.Math.Seq.{take-append-add, take-length}
@@ -25,11 +25,6 @@ use Rattle.mds_cli.specs.declared.status.Status.{Status}
 use Rattle.mds_cli.specs.declared.status.Status.TheVariants.{BadScript, BadDisk, Limit, OutOfMemory}
 use Rattle.mds_cli.proofs.Following.{long_bad}
 use Rattle.mds_cli.proofs.Scripts.{lines_front, last_line, long_line}
-
--- what a result that is this error says of its error
-pub err_at : {T E : Type 0} (r : Result T E) (e : E) (P : E → Type 0) → IsErrAnd r (λ x. x ≡ e) → P e → IfErr r P
-err_at (Ok x) e P is p = tt
-err_at (Err x) e P is p = subst P (sym is) p
 
 -- text that is added behind what is on its way is on its way too
 pub flows_more : (before now : Option (List ℕ)) (pending text more : List ℕ) → Flows before now pending text → Flows before now (pending ++ more) (text ++ more)

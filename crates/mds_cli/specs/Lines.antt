@@ -1,11 +1,7 @@
 -- The lines of a script, as bytes: each line feed ends one, which the last may lack.
 use Rattle.std.specs.Prelude.{ℕ, List, [], ◌∷◌, ◌==◌, if◌then◌else◌, not, IsTrue}
 use Rattle.std.specs.List.{list_all}
-
--- a byte in front of the first of the lines, which it begins where there is none
-abbrev pub onto_first : ℕ → List (List ℕ) → List (List ℕ)
-onto_first byte [] = (byte ∷ []) ∷ []
-onto_first byte (line ∷ lines) = (byte ∷ line) ∷ lines
+use Rattle.script.specs.Words.{onto_first}
 
 -- the lines, without their line feeds; no bytes have no line, and after a last line feed there is none
 abbrev pub lines_of : List ℕ → List (List ℕ)

@@ -3,7 +3,8 @@ use Rattle.world.specs.declared.event.Event.TheVariants.{Issue}
 use Rattle.interpreter.specs.Steps.{Halts}
 use Rattle.interpreter.specs.Story.{IsFollowing, IsSending}
 use Rattle.interpreter.proofs.Following.{sent_followed, sent_halts, unsent_halts}
-use Rattle.interpreter.proofs.Happening.{err_at, on_ok, on_err}
+use Rattle.node_store.proofs.Restarting.{err_at}
+use Rattle.interpreter.proofs.Happening.{on_ok, on_err}
 use Rattle.interpreter.proofs.Paying.{pays_next}
 use Rattle.interpreter.proofs.interpreter.Interpreter.call.Goals as goal
 

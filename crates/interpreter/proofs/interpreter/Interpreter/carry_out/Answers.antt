@@ -6,7 +6,7 @@ use Rattle.simulation.specs.Fuses.{seen_by, images_by}
 use Rattle.simulation.specs.Licences.{none_at, once_at}
 use Rattle.interpreter.specs.Steps.{Halts}
 use Rattle.interpreter.specs.Story.{IsBegun}
-use Rattle.interpreter.proofs.Happening.{err_at}
+use Rattle.node_store.proofs.Restarting.{err_at}
 use Rattle.interpreter.proofs.Paying.{pays_same, pays_none, pays_line}
 use Rattle.interpreter.proofs.interpreter.Interpreter.carry_out.Goals as goal
 

@@ -3,7 +3,8 @@ use Rattle.simulation.specs.Fuses.{seen_by, images_by}
 use Rattle.world.specs.declared.event.Event.TheVariants.{Issue}
 use Rattle.interpreter.specs.declared.interpreter.Halt.TheVariants.{OutOfMemory}
 use Rattle.interpreter.specs.Steps.{IsEvent}
-use Rattle.interpreter.proofs.Happening.{err_at, full_event, refused}
+use Rattle.node_store.proofs.Restarting.{err_at}
+use Rattle.interpreter.proofs.Happening.{full_event, refused}
 use Rattle.interpreter.proofs.Paying.{pays_same}
 use Rattle.interpreter.proofs.interpreter.Interpreter.issue.Goals as goal
 

@@ -1,7 +1,8 @@
 use Rattle.simulation.specs.Fuses.{seen_by, images_by}
 use Rattle.std.proofs.Common.{None, refl, ap}
 use Rattle.interpreter.specs.Steps.{IsDeliveredTo}
-use Rattle.interpreter.proofs.Happening.{err_at, full_miss, missed_does, done_printed}
+use Rattle.node_store.proofs.Restarting.{err_at}
+use Rattle.interpreter.proofs.Happening.{full_miss, missed_does, done_printed}
 use Rattle.simulation.specs.Licences.{none_at}
 use Rattle.mds_out.specs.Fused.{Fused}
 use Rattle.simulation.specs.Shows.{SimulationV}

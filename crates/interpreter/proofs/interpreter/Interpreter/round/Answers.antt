@@ -1,7 +1,7 @@
 use Rattle.std.proofs.Common.{ap, is_some}
 use Rattle.simulation.specs.Fuses.{seen_by, images_by}
 use Rattle.interpreter.proofs.Following.{round_taken, round_ends, round_on, halts_delivery, halts_take, halts_resend}
-use Rattle.interpreter.proofs.Happening.{err_at}
+use Rattle.node_store.proofs.Restarting.{err_at}
 use Rattle.interpreter.proofs.Paying.{pays_next}
 use Rattle.interpreter.proofs.interpreter.Interpreter.round.Goals as goal
 

@@ -3,7 +3,8 @@ use Rattle.simulation.specs.Fuses.{seen_by, images_by}
 use Rattle.interpreter.specs.declared.interpreter.Halt.TheVariants.{OutOfMemory}
 use Rattle.interpreter.specs.Steps.{IsDeliveredTo}
 use Rattle.interpreter.specs.Story.{IsDelivery}
-use Rattle.interpreter.proofs.Happening.{err_at, full_serve, full_numbers, refused, answered_does, silent_does, stopped_does, delivery, done_silently, done_printed, not_printed}
+use Rattle.node_store.proofs.Restarting.{err_at}
+use Rattle.interpreter.proofs.Happening.{full_serve, full_numbers, refused, answered_does, silent_does, stopped_does, delivery, done_silently, done_printed, not_printed}
 use Rattle.simulation.specs.Licences.{none_at, once_at}
 use Rattle.interpreter.proofs.Paying.{pays_same, pays_none, pays_stop, pays_at}
 use Rattle.interpreter.proofs.interpreter.Interpreter.serve.Goals as goal

@@ -1,7 +1,7 @@
 use Rattle.std.proofs.Common.{refl, arith}
 use Rattle.simulation.specs.Fuses.{seen_by, images_by}
 use Rattle.interpreter.proofs.Settling.{settles_none, settles_more, settles_ends, settles_halts, settles_full}
-use Rattle.interpreter.proofs.Happening.{err_at}
+use Rattle.node_store.proofs.Restarting.{err_at}
 use Rattle.interpreter.proofs.Paying.{pays_same, pays_next}
 use Rattle.interpreter.proofs.interpreter.Interpreter.settle.Goals as goal
 

@@ -1,7 +1,8 @@
 use Rattle.simulation.specs.Fuses.{seen_by, images_by}
 use Rattle.world.specs.declared.event.Event.TheVariants.{Stop}
 use Rattle.world.specs.declared.event.StopCause.TheVariants.{Asked}
-use Rattle.interpreter.proofs.Happening.{err_at, full_event}
+use Rattle.node_store.proofs.Restarting.{err_at}
+use Rattle.interpreter.proofs.Happening.{full_event}
 use Rattle.std.proofs.Common.{refl}
 use Rattle.simulation.specs.Licences.{none_at}
 use Rattle.interpreter.proofs.Paying.{pays_same, pays_none}

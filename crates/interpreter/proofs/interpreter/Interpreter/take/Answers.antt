@@ -9,7 +9,8 @@ use Rattle.interpreter.specs.EventText.{event_text}
 use Rattle.interpreter.specs.Steps.{IsEvent}
 use Rattle.interpreter.specs.Story.{is_redirected, redirects}
 use Rattle.interpreter.specs.Text.{taken_line}
-use Rattle.interpreter.proofs.Happening.{err_at, full_event, refused, does_event, done_printed, not_printed}
+use Rattle.node_store.proofs.Restarting.{err_at}
+use Rattle.interpreter.proofs.Happening.{full_event, refused, does_event, done_printed, not_printed}
 use Rattle.interpreter.proofs.Redirecting.{take_line, take_redirects}
 use Rattle.simulation.specs.Licences.{none_at}
 use Rattle.interpreter.proofs.Paying.{pays_same, pays_taken, pays_at}

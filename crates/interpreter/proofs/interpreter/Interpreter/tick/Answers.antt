@@ -1,7 +1,8 @@
 use Rattle.std.proofs.Common.{arith, refl, ap}
 use Rattle.simulation.specs.Fuses.{seen_by, images_by}
 use Rattle.world.specs.declared.event.Event.TheVariants.{Tick}
-use Rattle.interpreter.proofs.Happening.{err_at, full_event, full_moment}
+use Rattle.node_store.proofs.Restarting.{err_at}
+use Rattle.interpreter.proofs.Happening.{full_event, full_moment}
 use Rattle.mds_out.specs.Fused.{Fused}
 use Rattle.simulation.specs.Shows.{SimulationV}
 use Rattle.interpreter.proofs.Paying.{pays_same}

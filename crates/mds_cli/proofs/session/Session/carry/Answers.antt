@@ -1,7 +1,7 @@
 use Rattle.std.proofs.Common.{◌∙◌, refl, ◌+◌, ◌∷◌, []}
 use Rattle.simulation.specs.Fuses.{seen_by, images_by}
 use Rattle.mds_cli.specs.Streams.{streams}
-use Rattle.mds_cli.proofs.Turning.{err_at}
+use Rattle.node_store.proofs.Restarting.{err_at}
 use Rattle.mds_cli.proofs.Carrying.{carrying_none, carrying_more}
 use Rattle.mds_cli.proofs.Ending.{all_none, all_last, stops}
 use Rattle.mds_cli.proofs.Paying.{pays_start, lines_next, stop_next}

@@ -5,7 +5,8 @@ use Rattle.mds_cli.specs.Streams.{streams}
 use Rattle.mds_cli.specs.Stops.{PaysStop}
 use Rattle.mds_cli.specs.Turn.{StopsTurn}
 use Rattle.mds_cli.proofs.Paying.{pays_unread, pays_none, pays_halted, pays_ended, pays_last}
-use Rattle.mds_cli.proofs.Turning.{err_at, begins_ended, begins_last, ended_reader, last_reader, ends_reader, has_ended, has_last, stops_call, stops_line, carries_line, carries_last}
+use Rattle.node_store.proofs.Restarting.{err_at}
+use Rattle.mds_cli.proofs.Turning.{begins_ended, begins_last, ended_reader, last_reader, ends_reader, has_ended, has_last, stops_call, stops_line, carries_line, carries_last}
 use Rattle.mds_cli.proofs.session.Session.turn.Goals as goal
 
 pub returns-in-Err-clause-err : goal.returns-in-Err-clause-err
