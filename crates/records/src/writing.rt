@@ -158,6 +158,9 @@ fn put_record(out: &mut Vec<u8>, item: &Record) -> Result<(), AllocError>
     }
 }
 
+// Room for a record whose name is short, so that most are written without moving.
+const ROOM: usize = 96;
+
 /// Appends the one spelling of a record (`docs/FORMATS.md`, "Records"), whose numbers are in the ranges there and
 /// whose final the plain rules allow for its call. Where there is no memory for it `out` stays as it is.
 pub fn write(alloc: Global, item: &Record, out: &mut Vec<u8>) -> Result<(), AllocError>
@@ -165,7 +168,7 @@ pub fn write(alloc: Global, item: &Record, out: &mut Vec<u8>) -> Result<(), Allo
     ensures ok { OnOk result (out.new.items ≡ out.old.items ++ record_spelling item.now) }
     ensures err { OnErr result (out.new.items ≡ out.old.items) }
 {
-    let mut bytes = Vec::new(alloc);
+    let mut bytes = Vec::with_capacity(alloc, ROOM)?;
     put_record(&mut bytes, item)?;
     out.extend_from_slice(bytes.as_slice())?;
     Ok(())
