@@ -123,7 +123,11 @@ impl Client {
     fn locate(&self, dir: u64, name: &Name) -> u32
         ensures { result ≡ located_in self.now dir name.now }
     {
-        self.bitmap(dir).locate(hash(name))
+        match self.bits.get(&dir) {
+            // Partition 0 alone: every hash is located there.
+            None => 0,
+            Some(bits) => bits.locate(hash(name)),
+        }
     }
 
     // The request that the client sends for a call.
