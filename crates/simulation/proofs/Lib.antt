@@ -29,5 +29,6 @@ pub mod Changing
 pub mod Handing
 pub mod Reviving
 pub mod Making
+pub mod Marks
 pub mod Licensing
 pub mod Paying

@@ -3,6 +3,7 @@ pub mod Entries
 pub mod Fuses
 pub mod Licences
 pub mod Openings
+pub mod Places
 pub mod Ranges
 pub mod Runs
 pub mod Shows

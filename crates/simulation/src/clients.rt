@@ -2,7 +2,6 @@
 ghost use Rattle.std.specs.Prelude.{◌≡◌, ◌++◌, ◌∷◌, [], ◌+◌, ◌<◌, ◌≤◌, ◌^◌, true, false, length, Some, IfOk, OnOk, OnErr};
 ghost use Rattle.std.specs.List.{slice_get};
 ghost use Rattle.std.specs.FinSet as set;
-ghost use Rattle.std.specs.Ordering.{nat_cmp};
 ghost use Rattle.node_store.specs.Serve.{IsWellMade};
 ghost use Rattle.world.specs.declared.event.Event.TheVariants as Event;
 ghost use Rattle.world.specs.Events.{is_call, is_for_client};
@@ -10,6 +9,7 @@ ghost use Rattle.simulation.specs.Calls.{IsRequestAt, IsSend, noting, taken_of};
 ghost use Rattle.simulation.specs.Fuses.{seen_by, images_by};
 ghost use Rattle.simulation.specs.Shows.{Happens, StaysNear, client_at, is_idle, is_busy, server_for, waiting_cmp};
 
+use crate::places::Places;
 use crate::simulation::Simulation;
 use crate::waiting::await_server;
 use client_core::Taken;
@@ -86,8 +86,8 @@ fn send(sent: &mut MsgList, waiting: &mut BTreeSet<(u32, u64)>, msg: Msg) -> Res
 }
 
 // Notes that the message at a place answered a call, where it did.
-fn note_taken(places: &mut BTreeSet<u64>, taken: &Taken, place: u64) -> Result<(), AllocError>
-    ensures { OnOk result (set.from_list {R = nat_cmp} places.new.keys ≡ noting (set.from_list places.old.keys) taken.now place) }
+fn note_taken(places: &mut Places, taken: &Taken, place: u64) -> Result<(), AllocError>
+    ensures { OnOk result (places.new ≡ noting places.old taken.now place) }
 {
     if let Taken::Answer(_) = taken {
         places.insert(place)?;

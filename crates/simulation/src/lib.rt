@@ -6,6 +6,7 @@ mod clients;
 mod law;
 mod made;
 mod opening;
+mod places;
 mod servers;
 mod simulation;
 mod waiting;

@@ -13,6 +13,7 @@ ghost use Rattle.simulation.specs.Ranges.{IsSetup};
 ghost use Rattle.simulation.specs.Shows.{AreServers};
 ghost use Rattle.simulation.specs.Starts.{AreDisks, AreReached};
 
+use crate::places::Places;
 use crate::simulation::Simulation;
 use client_core::Client;
 use mds_base::{Setup, StoreFault};
@@ -71,7 +72,7 @@ impl<D: Disk + Drop> Simulation<D> {
                 sent: MsgList::new(alloc),
                 waiting: BTreeSet::new(alloc),
                 made: Vec::new(alloc),
-                taken: BTreeSet::new(alloc),
+                taken: Places::new(alloc),
                 back,
             }),
             Err(refused) => Err(refused),

@@ -12,6 +12,7 @@ ghost use Rattle.simulation.specs.Shows.{Happens, ShowsSame, client_at, server_f
 ghost use Rattle.simulation.specs.Shows as shown;
 
 use crate::made::{Kind, Made};
+use crate::places::Places;
 use crate::waiting::{is_to, server_of};
 use client_core::Client;
 use mds_base::Setup;
@@ -35,7 +36,7 @@ pub struct Simulation<D: Disk> {
     pub(crate) sent: MsgList,
     pub(crate) waiting: BTreeSet<(u32, u64)>,
     pub(crate) made: Vec<Made>,
-    pub(crate) taken: BTreeSet<u64>,
+    pub(crate) taken: Places,
     // Empty, with room for all disks, so that they can be handed back without memory.
     pub(crate) back: Vec<D>,
 }
@@ -45,7 +46,6 @@ impl<D: Disk> Model for Simulation<D> {
     ghost use Rattle.std.specs.FinMap as map;
     ghost use Rattle.std.specs.FinSet as set;
     ghost use Rattle.std.specs.Coded.{codes};
-    ghost use Rattle.std.specs.Ordering.{nat_cmp};
     ghost use Rattle.std.specs.Vec.{vec_capacity};
     ghost use Rattle.mds_base.specs.Entries.{coded_attr};
     ghost use Rattle.mds_base.specs.RowKeys.{coded_row_key};
@@ -67,7 +67,7 @@ impl<D: Disk> Model for Simulation<D> {
       sent = a.sent;
       waiting = set.from_list {R = waiting_cmp} a.waiting.keys;
       made = a.made.items;
-      taken = set.from_list {R = nat_cmp} a.taken.keys;
+      taken = a.taken;
     } };
 
     ghost invariant = { λ a. AreRanges a.setup a.moment a.count a.stores.items a.clients.items a.sent × (a.back.items ≡ []) × (a.setup.servers ≤ vec_capacity a.back) };
@@ -168,7 +168,7 @@ impl<D: Disk> Simulation<D> {
     {
         match made.kind {
             Kind::Change => true,
-            Kind::Lookup { place } => self.taken.contains(&place),
+            Kind::Lookup { place } => self.taken.contains(place),
         }
     }
 

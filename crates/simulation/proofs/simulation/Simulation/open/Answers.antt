@@ -1,6 +1,5 @@
 use Rattle.std.proofs.Common.{◌<◌, ◌∙◌, ap, subst, sym, refl, List, arith}
 use Rattle.std.specs.FinSet as set
-use Rattle.std.specs.Ordering.{nat_cmp}
 use Rattle.mds_out.specs.Fused.{Fused}
 use Rattle.records.specs.declared.msg.Msg.{Msg}
 use Rattle.simulation.specs.Openings.{IsUpOn}
@@ -37,7 +36,7 @@ returns-in-Ok-bring_up_all-clause-begins g c =
       sent = c.new.result;
       waiting = set.from_list {R = waiting_cmp} c.new-in-Ok-bring_up_all.result.keys;
       made = c.new-in-Ok-bring_up_all-2.result.items;
-      taken = set.from_list {R = nat_cmp} c.new-in-Ok-bring_up_all-3.result.keys;
+      taken = c.new-in-Ok-bring_up_all-3.result;
     } in
     λ past reached.
     opens_from d.seen d.images g.met.D.Disk.reads_as c.laws_of_disks.ensures.one c.args.setup sim c.args.disks.items x.ensures.up (record {
@@ -48,7 +47,7 @@ returns-in-Ok-bring_up_all-clause-begins g c =
       sent = c.new.ensures;
       waiting = ap (set.from_list {R = waiting_cmp}) c.new-in-Ok-bring_up_all.ensures.empty;
       made = c.new-in-Ok-bring_up_all-2.ensures.items;
-      taken = ap (set.from_list {R = nat_cmp}) c.new-in-Ok-bring_up_all-3.ensures.empty;
+      taken = c.new-in-Ok-bring_up_all-3.ensures;
     }) some past reached
 
 pub returns-in-Err-clause-still : goal.returns-in-Err-clause-still
