@@ -212,11 +212,9 @@ fn hand_out(
         records,
         mut outputs,
     } = handled;
-    let mut entries = changes(alloc, &records)?;
+    add_changes(alloc, made, &records)?;
     let asked = &sent.messages()[place as usize];
-    let answered = lookup(alloc, asked, outputs.messages(), first)?;
-    made.append(&mut entries)?;
-    add(made, answered)?;
+    add_lookup(alloc, made, asked, outputs.messages(), first)?;
     let served = ended(outputs.messages(), first);
     sent.append(&mut outputs)?;
     Ok(served)
@@ -237,26 +235,23 @@ fn changes(alloc: Global, records: &RecordList) -> Result<Vec<Made>, AllocError>
     ensures { IfOk result (λ made. made.items ≡ changes_of records.now) }
 {
     let mut made = Vec::new(alloc);
-    for item in records.records() {
-        let entry = change(alloc, item)?;
-        add(&mut made, entry)?;
-    }
+    add_changes(alloc, &mut made, records)?;
     Ok(made)
 }
 
-// Adds an entry, where there is one.
-fn add(made: &mut Vec<Made>, entry: Option<Made>) -> Result<(), AllocError>
-    ensures { OnOk result (made.new.items ≡ with_one made.old.items entry) }
+// Adds the entries of the changes that records tell of.
+fn add_changes(alloc: Global, made: &mut Vec<Made>, records: &RecordList) -> Result<(), AllocError>
+    ensures { OnOk result (made.new.items ≡ made.old.items ++ changes_of records.now) }
 {
-    if let Some(entry) = entry {
-        made.push(entry)?;
+    for item in records.records() {
+        add_change(alloc, made, item)?;
     }
     Ok(())
 }
 
-// The entry of the change that a record tells of.
-fn change(alloc: Global, item: &Record) -> Result<Option<Made>, AllocError>
-    ensures { IfOk result (λ made. made ≡ change_of item.now) }
+// Adds the entry of the change that a record tells of, where it tells of one.
+fn add_change(alloc: Global, made: &mut Vec<Made>, item: &Record) -> Result<(), AllocError>
+    ensures { OnOk result (made.new.items ≡ with_one made.old.items (change_of item.now)) }
 {
     let Record::Served {
         client,
@@ -266,10 +261,10 @@ fn change(alloc: Global, item: &Record) -> Result<Option<Made>, AllocError>
         ..
     } = item
     else {
-        return Ok(None);
+        return Ok(());
     };
     let call = call.copy(alloc)?;
-    Ok(Some(Made {
+    made.push(Made {
         entry: Entry {
             client: *client,
             seq: *seq,
@@ -277,31 +272,44 @@ fn change(alloc: Global, item: &Record) -> Result<Option<Made>, AllocError>
             reply: Reply::Said(*said),
         },
         kind: Kind::Change,
-    }))
+    })?;
+    Ok(())
 }
 
-// The entry of a lookup that a message asked for and one of its outputs answers, with the place of its answer.
-fn lookup(alloc: Global, msg: &Msg, outputs: &[Msg], place: u64) -> Result<Option<Made>, AllocError>
-    ensures { IfOk result (λ made. made ≡ lookup_of msg.now outputs.now place) }
+// Adds the entry of a lookup that a message asked for and one of its outputs answers, with the place of its answer.
+fn add_lookup(
+    alloc: Global,
+    made: &mut Vec<Made>,
+    msg: &Msg,
+    outputs: &[Msg],
+    place: u64,
+) -> Result<(), AllocError>
+    ensures { OnOk result (made.new.items ≡ with_one made.old.items (lookup_of msg.now outputs.now place)) }
 {
     match (msg, outputs) {
-        (Msg::Request { ask, .. }, [Msg::Answer { reply, .. }]) => answered(
-            alloc, ask, reply, place,
+        (Msg::Request { ask, .. }, [Msg::Answer { reply, .. }]) => add_answered(
+            alloc, made, ask, reply, place,
         ),
-        _ => Ok(None),
+        _ => Ok(()),
     }
 }
 
-// The entry of an ask that got a reply, which stands at a place, where it is a lookup.
-fn answered(alloc: Global, ask: &Ask, reply: &Reply, place: u64) -> Result<Option<Made>, AllocError>
-    ensures { IfOk result (λ made. made ≡ looked ask.now ask.now.call reply.now place) }
+// Adds the entry of an ask that got a reply, which stands at a place, where it is a lookup.
+fn add_answered(
+    alloc: Global,
+    made: &mut Vec<Made>,
+    ask: &Ask,
+    reply: &Reply,
+    place: u64,
+) -> Result<(), AllocError>
+    ensures { OnOk result (made.new.items ≡ with_one made.old.items (looked ask.now ask.now.call reply.now place)) }
 {
     let Call::Lookup { .. } = &ask.call else {
-        return Ok(None);
+        return Ok(());
     };
     let call = ask.call.copy(alloc)?;
     let reply = reply.copy(alloc)?;
-    Ok(Some(Made {
+    made.push(Made {
         entry: Entry {
             client: ask.client,
             seq: ask.seq,
@@ -309,5 +317,6 @@ fn answered(alloc: Global, ask: &Ask, reply: &Reply, place: u64) -> Result<Optio
             reply,
         },
         kind: Kind::Lookup { place },
-    }))
+    })?;
+    Ok(())
 }
