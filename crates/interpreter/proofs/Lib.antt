@@ -7,3 +7,4 @@ pub mod Redirecting
 pub mod Settling
 pub mod Sights
 pub mod Stepping
+pub mod Plain

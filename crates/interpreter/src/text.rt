@@ -1,11 +1,12 @@
 //! How calls, replies and events are printed (`docs/FORMATS.md`, "Lines carried out").
-ghost use Rattle.std.specs.Prelude.{◌≡◌, ◌<◌, true};
+ghost use Rattle.std.specs.Prelude.{◌≡◌, ◌<◌, true, IfSome};
+ghost use Rattle.std.specs.List.{list_all};
 ghost use Rattle.std.specs.Fmt.{digit_glyph};
-ghost use Rattle.script.specs.Text.{is_plain_byte};
+ghost use Rattle.script.specs.Text.{is_plain_byte, name_text};
 
 use client_core::Taken;
 use mds_base::{Attr, Call, Entry, Final, Name, Reply};
-use std::fmt;
+use std::{fmt, str};
 
 /// A name as a script spells it: bytes 21 to 7e (hexadecimal) but `%` as they are, every other byte as `%` and two
 /// hexadecimal digits.
@@ -19,11 +20,35 @@ impl fmt::Display for NameText<'_> {
     ghost output = { λ text. Some (name_text text.0.now) };
 
     fn fmt<W: fmt::Write>(&self, f: &mut fmt::Formatter<W>) -> fmt::Result {
+        // Most names are spelt as they are, and are then written as a whole.
+        if let Some(text) = plain_text(self.0.bytes()) {
+            return f.write_str(text);
+        }
         for byte in self.0.bytes() {
             write!(f, "{}", ByteText(*byte))?;
         }
         Ok(())
     }
+}
+
+/// Bytes as a text, where each of them is printed as itself.
+fn plain_text(bytes: &[u8]) -> Option<&str>
+    ensures { IfSome result (λ text. text.now ≡ name_text bytes.now) }
+{
+    if !are_plain(bytes) {
+        return None;
+    }
+    match str::from_utf8(bytes) {
+        Ok(text) => Some(text),
+        Err(_) => None,
+    }
+}
+
+/// Whether each byte is printed as itself.
+fn are_plain(bytes: &[u8]) -> bool
+    ensures { result ≡ list_all is_plain_byte bytes.now }
+{
+    bytes.iter().all(|byte| is_plain(*byte))
 }
 
 /// A byte of a name.
