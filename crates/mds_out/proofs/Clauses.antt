@@ -8,7 +8,7 @@ use Rattle.mds_out.specs.Content.{bytes_of, left_of}
 use Rattle.mds_out.specs.Disk.{Image, Follows, Shows}
 use Rattle.mds_out.specs.Images.{IsTorn, IsShortened}
 use Rattle.mds_out.specs.Past.{Past, content_of, IsPastImage, IsDone, with_act, counted}
-use Rattle.mds_out.proofs.Acts.{write_follows, cut_follows, untouched_torn, uncut_shortened, sync_durable, sync_images, restart_left, restart_shows, restart_images}
+use Rattle.mds_out.proofs.Acted.{write_follows, cut_follows, untouched_torn, uncut_shortened, sync_durable, sync_images, restart_left, restart_shows, restart_images}
 
 -- what may be left of a past
 abbrev pub ImagesOf : Past → Image → Type 0

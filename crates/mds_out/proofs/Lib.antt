@@ -1,7 +1,8 @@
-pub mod Acts
+pub mod Acted
 pub mod Clauses
 pub mod Crash
 pub mod Failing
+pub mod Kept
 pub mod Fusing
 pub mod Moments
 pub mod Places

@@ -119,15 +119,3 @@ changed_place old slots number place now file change same first is done outcome 
     (done ∙ ap (λ (s : Slot). with_change s.file change) is ∙ ap (λ c. with_change c change) (sym (first_is slots number place now first)) ∙ sym (changed_here outcome number (content_in slots number) change))
     (λ other content apart. changed_others outcome number change other content apart) in
     record { each = λ other. acted.each other ∙ ap (λ c. cond (nat_eq number other) (with_change c change) c) (same.each other) }
-
--- where that change is refused nothing has changed
-pub refused_place : (old slots : List Slot) (number place : ℕ) (now : Slot) (file : Content) → AreAsBefore old slots → IsFirst number slots place → now ≡ get_or slots place now → file ≡ now.file → AreAsBefore old (set slots place (record { number = now.number; file = file }))
-refused_place old slots number place now file same first is done = record {
-  each = λ other. ⊎_elim
-      (λ (here : number ≡ other). set_first slots number place other _ first number_is ∙ equal number other file (content_in slots other) here ∙ done ∙ ap (λ (s : Slot). s.file) is ∙ sym (first_is slots number place now first) ∙ ap (content_in slots) here ∙ same.each other)
-      (λ (apart : number ≢ other). set_first slots number place other _ first number_is ∙ unequal number other file (content_in slots other) apart ∙ same.each other)
-      (cases_eq number other);
-}
-  where
-    number_is : now.number ≡ number
-    number_is = ap (λ (s : Slot). s.number) is ∙ first.is now

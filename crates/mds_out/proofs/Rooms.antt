@@ -1,5 +1,5 @@
 -- The two buffers of a file in memory through a change, a sync and a restart.
-use Rattle.std.proofs.Common.{◌≡◌, ℕ, ◌≤◌, List, [], ◌∷◌, ◌++◌, length, take, drop, true, false, refl, sym, ◌∙◌, ap, subst, arith, All}
+use Rattle.std.proofs.Common.{◌≡◌, ℕ, ◌≤◌, List, [], ◌∷◌, ◌++◌, length, take, drop, true, false, refl, sym, ◌∙◌, ap, arith, All}
 use Rattle.std.proofs.lemmas.List.{take_all, drop_all, append-nil, take-take, length-take, length-take-le}
 use Rattle.std.proofs.lemmas.List.Sums.{fold-append}
 use Rattle.std.proofs.lemmas.List.Elements.{All-push}
@@ -25,28 +25,6 @@ fits_longer n m since le fits = λ k d here. omega (arith, fits k d here)
 fits_push : (n : ℕ) (since : List Change) (change : Change) → All (λ step. change_end step ≤ n) since → change_end change ≤ n → All (λ step. change_end step ≤ n) (since ++ change ∷ [])
 fits_push n since change fits last = All-push (λ step. change_end step ≤ n) since change fits last
 
-pub changed_rooms : (current current' kept kept' : List ℕ) (len len' kept_len : ℕ) (since since' : List Change) (change : Change) → HasRooms current kept len kept_len since
-    → take len' current' ≡ changed (take len current) change → len' ≤ length current' → length current ≤ length current' → take (length kept) kept' ≡ kept → length kept ≤ length kept' → change_end change ≤ length kept'
-    → since' ≡ since ++ change ∷ [] → HasRooms current' kept' len' kept_len since'
-changed_rooms current current' kept kept' len len' kept_len since since' change rooms is count longer front kept_longer fits pushed = subst (HasRooms current' kept' len' kept_len) (sym pushed) (record {
-  reads = is ∙ ap (λ l. changed l change) (rooms.reads ∙ ap (λ l. replayed false l since) (sym (front_stays kept kept' kept_len front rooms.kept_room))) ∙ sym (replayed_push (take kept_len kept') since change);
-  room = count;
-  kept_room = omega (arith, rooms.kept_room);
-  kept_fits = omega (arith, rooms.kept_fits);
-  changes_fit = fits_push (length kept') since change (fits_longer (length kept) (length kept') since kept_longer rooms.changes_fit) fits;
-})
-
-pub synced_rooms : (current kept kept' : List ℕ) (len n kept_len : ℕ) (since : List Change) → HasRooms current kept len kept_len since → n ≤ length kept' → take n kept' ≡ replayed false (take kept_len kept) since → HasRooms current kept' len n []
-synced_rooms current kept kept' len n kept_len since rooms count is =
-    let sizes : n ≡ len = sym (length-take-le n kept' count) ∙ ap length (is ∙ sym rooms.reads) ∙ length-take-le len current rooms.room in
-    record {
-      reads = rooms.reads ∙ sym is;
-      room = rooms.room;
-      kept_room = count;
-      kept_fits = omega (arith, rooms.room);
-      changes_fit = λ k d here. absurd (omega arith);
-    }
-
 -- a buffer that was lent whole, as a goal shows it
 pub lent_whole : (old new : List ℕ) (n : ℕ) → length new ≡ length old → n ≡ length old → take n (new ++ drop (length new) old) ≡ new
 lent_whole old new n same is = ap (λ l. take n (new ++ l)) (drop_all (length new) old (omega arith)) ∙ ap (take n) (append-nil new) ∙ take_all n new (omega arith)
@@ -63,16 +41,6 @@ pub left_fits : (current kept : List ℕ) (len kept_len : ℕ) (since : List Cha
 left_fits current kept len kept_len since Old rooms = omega (arith, length-take kept_len kept, rooms.kept_fits)
 left_fits current kept len kept_len since New rooms = omega (arith, ap length rooms.reads, length-take len current)
 left_fits current kept len kept_len since Mixed rooms = omega (arith, replayed_length (take kept_len kept) (take kept_len kept) since refl, ap length rooms.reads, length-take len current)
-
--- after a restart both buffers hold what it left
-pub restarted_rooms : (current current' kept' : List ℕ) (n : ℕ) → n ≤ length kept' → n ≤ length current' → take n current' ≡ take n kept' → HasRooms current' kept' n n []
-restarted_rooms current current' kept' n kept_count count same = record {
-  reads = same;
-  room = count;
-  kept_room = kept_count;
-  kept_fits = count;
-  changes_fit = λ k d here. absurd (omega arith);
-}
 
 -- what a restart leaves has room in the other buffer
 pub settled_fits : (current kept kept' : List ℕ) (len n kept_len : ℕ) (since : List Change) (outcome : Outcome) → HasRooms current kept len kept_len since → n ≤ length kept' → take n kept' ≡ left_of outcome (record { synced = take kept_len kept; since = since }) → n ≤ length current

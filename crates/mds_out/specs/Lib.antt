@@ -12,6 +12,7 @@ pub mod Change
 pub mod Content
 pub mod ContentLaws
 pub mod FileRooms
+pub mod Kept
 pub mod Past
 pub mod PastLaws
 pub mod Slots

@@ -42,20 +42,6 @@ pub(crate) enum Change {
     Cut { to: usize },
 }
 
-impl Change {
-    pub(crate) fn copy(&self, alloc: Global) -> Result<Change, AllocError>
-        ensures { IfOk result (λ change. change ≡ self.now) }
-    {
-        match self {
-            Change::Write { at, bytes } => {
-                let bytes = Written::of(alloc, bytes.bytes())?;
-                Ok(Change::Write { at: *at, bytes })
-            }
-            Change::Cut { to } => Ok(Change::Cut { to: *to }),
-        }
-    }
-}
-
 /// Writes bytes over the first `len` bytes of a buffer, or behind them, and says how many bytes count then.
 pub(crate) fn write_over(buffer: &mut [u8], len: usize, at: usize, bytes: &[u8]) -> usize
     requires within { len ≤ length buffer.old }

@@ -10,6 +10,7 @@
 #![tactic(auto)]
 
 mod act;
+mod acts;
 mod bytes_in;
 mod bytes_out;
 mod calls;

@@ -11,7 +11,7 @@ ghost use Rattle.mds_out.specs.FaultLaws.{same_count, no_fewer_on, rose_on, rose
 ghost use Rattle.mds_out.specs.PastLaws.{tells_length, reads_as, counts_now, only_now};
 ghost use Rattle.mds_out.specs.Past.{content_of, IsPastImage, IsImageSince, IsDone, IsLooked};
 
-use crate::act::Act;
+use crate::acts::Acts;
 use crate::calls::Calls;
 use crate::change::{Change, Written};
 use crate::slots::{Slot, change_file, length_of, read_file, restart_files, sync_file};
@@ -20,14 +20,15 @@ use std::alloc::{AllocError, Global};
 use std::marker::Model;
 
 /// A disk in memory. A write costs the bytes written, a read the bytes read, and a sync what was written since the
-/// last one of its file. For its images it keeps each change.
+/// last one of its file. For its images it keeps each change, in one buffer for the
+/// bytes of all writes.
 #[derive(Drop)]
 pub struct Memory {
     alloc: Global,
     outcome: Outcome,
     calls: Calls,
     slots: Vec<Slot>,
-    acts: Vec<Act>,
+    acts: Acts,
 }
 
 impl Model for Memory {
@@ -36,9 +37,9 @@ impl Model for Memory {
 
     ghost Value = { Past };
 
-    ghost view = { λ m. record { outcome = m.outcome; fails = m.calls.fails.items; made = m.calls.made; acts = m.acts.items } };
+    ghost view = { λ m. record { outcome = m.outcome; fails = m.calls.fails.items; made = m.calls.made; acts = m.acts } };
 
-    ghost invariant = { λ m. HoldPast m.outcome m.acts.items m.slots.items };
+    ghost invariant = { λ m. HoldPast m.outcome m.acts m.slots.items };
 }
 
 impl Memory {
@@ -52,7 +53,7 @@ impl Memory {
             outcome,
             calls: Calls { fails, made: 0 },
             slots: Vec::new(alloc),
-            acts: Vec::new(alloc),
+            acts: Acts::new(alloc),
         })
     }
 
@@ -61,13 +62,14 @@ impl Memory {
         ensures ok { OnOk result (self.new ≡ record self.old { acts = self.old.acts ++ Changed file change ∷ [] }) }
         ensures err { OnErr result (self.new ≡ self.old) }
     {
-        self.acts.reserve(1)?;
-        let kept = change.copy(self.alloc)?;
-        change_file(self.alloc, &mut self.slots, file, change)?;
-        if self.acts.push(Act::Changed { file, change: kept }).is_err() {
-            unreachable!();
+        self.acts.add_change(file, &change)?;
+        match change_file(self.alloc, &mut self.slots, file, change) {
+            Ok(()) => Ok(()),
+            Err(error) => {
+                self.acts.take_back();
+                Err(error)
+            }
         }
-        Ok(())
     }
 }
 
@@ -135,7 +137,7 @@ impl Memory {
         if self.calls.make().is_err() {
             return Err(DiskFault::Device);
         }
-        self.acts.push(Act::Synced { file })?;
+        self.acts.add_sync(file)?;
         sync_file(&mut self.slots, file);
         Ok(())
     }
@@ -147,7 +149,7 @@ impl Memory {
         if self.calls.make().is_err() {
             return Err(DiskFault::Device);
         }
-        self.acts.push(Act::Restarted)?;
+        self.acts.add_restart()?;
         restart_files(&mut self.slots, self.outcome);
         Ok(())
     }

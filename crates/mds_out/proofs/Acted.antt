@@ -1,7 +1,7 @@
 -- The files, images and moments of a disk in memory, one act later.
-use Rattle.std.proofs.Common.{◌≡◌, ◌≢◌, inl, inr, ⊎_elim, ℕ, ◌+◌, ◌<◌, ◌≤◌, max, List, [], ◌∷◌, ◌++◌, length, map, true, false, cond, nat_eq, refl, sym, ◌∙◌, ap, subst, arith, length-append}
-use Rattle.std.proofs.lemmas.Bool.{cases_lt, cases_eq}
-use Rattle.std.proofs.lemmas.List.{take_all, take-append-le, map-append}
+use Rattle.std.proofs.Common.{◌≡◌, ◌≢◌, ⊎_elim, ℕ, ◌≤◌, List, [], ◌∷◌, ◌++◌, length, map, true, false, cond, nat_eq, refl, sym, ◌∙◌, ap, subst, arith}
+use Rattle.std.proofs.lemmas.Bool.{cases_eq}
+use Rattle.std.proofs.lemmas.List.{map-append}
 use Rattle.std.proofs.lemmas.Grind.{same_number_lists}
 use Rattle.std.proofs.lemmas.List.Sums.{fold-append}
 use Rattle.mds_out.specs.declared.act.Act.{Act}
@@ -11,41 +11,22 @@ use Rattle.mds_out.specs.declared.change.Change.TheVariants.{Write, Cut}
 use Rattle.mds_out.specs.declared.slots.Slot.{Slot}
 use Rattle.mds_out.specs.declared.outcome.Outcome.{Outcome}
 use Rattle.mds_out.specs.declared.outcome.Outcome.TheVariants.{Old, New, Mixed}
-use Rattle.mds_out.specs.Change.{changed, step_of}
+use Rattle.mds_out.specs.Change.{step_of}
 use Rattle.mds_out.specs.Content.{Content, at_rest, bytes_of, left_of, with_change, history}
-use Rattle.mds_out.specs.Disk.{Image, Elapses, Follows, put}
+use Rattle.mds_out.specs.Disk.{Image, Follows}
 use Rattle.mds_out.specs.Images.{History, IsImage, Reaches, Step, Writes, Cuts, history_at_sync, history_of, history_after, IsLed, IsTorn, IsShortened}
-use Rattle.mds_out.specs.Past.{acted, content_of, IsPastImage, IsImageSince}
+use Rattle.mds_out.specs.Past.{acted, content_of, IsPastImage}
 use Rattle.mds_out.specs.Slots.{HoldPast, HaveActed}
 use Rattle.mds_out.specs.ImageLaws.{synced_image}
-use Rattle.mds_out.specs.ContentLaws.{replayed_image, put_length}
+use Rattle.mds_out.specs.ContentLaws.{replayed_image}
 use Rattle.mds_out.proofs.Crash.{images_come_by_step}
 use Rattle.mds_out.proofs.Places.{equal, unequal, changed_here, changed_others, synced_here, synced_others}
-use Rattle.mds_out.proofs.Rooms.{replayed_push}
 
 pub content_push : (outcome : Outcome) (acts : List Act) (act : Act) (file : ℕ) → content_of outcome (acts ++ act ∷ []) file ≡ acted outcome file (content_of outcome acts file) act
 content_push outcome acts act file = fold-append (acted outcome file) (at_rest []) acts (act ∷ [])
 
 pub hold_push : (outcome : Outcome) (acts acts' : List Act) (act : Act) (slots slots' : List Slot) → HoldPast outcome acts slots → HaveActed outcome act slots slots' → acts' ≡ acts ++ act ∷ [] → HoldPast outcome acts' slots'
 hold_push outcome acts acts' act slots slots' holds has pushed = record { each = λ file. has.each file ∙ ap (λ c. acted outcome file c act) (holds.each file) ∙ sym (content_push outcome acts act file) ∙ ap (λ l. content_of outcome l file) (sym pushed) }
-
--- ---- time
-
-pub elapses_same : (outcome : Outcome) (acts : List Act) → Elapses (length acts) (length acts) (IsImageSince outcome acts) (IsImageSince outcome acts) (IsPastImage outcome acts)
-elapses_same outcome acts = record { later = omega arith; nothing_else = λ t image le since. inl since; keeps = λ t image le past. past }
-
-pub elapses_push : (outcome : Outcome) (acts : List Act) (act : Act) → Elapses (length acts) (length (acts ++ act ∷ [])) (IsImageSince outcome acts) (IsImageSince outcome (acts ++ act ∷ [])) (IsPastImage outcome (acts ++ act ∷ []))
-elapses_push outcome acts act = record {
-  later = omega (arith, size);
-  nothing_else = λ t image le since. ⊎_elim
-      (λ (old : since.0 < length acts + 1). inl (since.0, since.1, omega arith, subst (λ l. IsPastImage outcome l image) (take-append-le since.0 acts (act ∷ []) (omega arith)) since.3))
-      (λ (new : length acts + 1 ≤ since.0). inr (subst (λ l. IsPastImage outcome l image) (take_all since.0 (acts ++ act ∷ []) (omega (arith, size))) since.3))
-      (cases_lt since.0 (length acts + 1));
-  keeps = λ t image le past. (past.0, past.1, omega (arith, size, past.2), subst (λ l. IsPastImage outcome l image) (sym (take-append-le past.0 acts (act ∷ []) past.2)) past.3);
-}
-  where
-    size : length (acts ++ act ∷ []) ≡ length acts + 1
-    size = omega (arith, length-append acts (act ∷ []))
 
 -- ---- images of one file
 
@@ -145,22 +126,3 @@ pub restart_images : (outcome : Outcome) (acts : List Act) (image : Image) → I
 restart_images outcome acts image is file =
     let only : image file ≡ left_of outcome (content_of outcome acts file) = rest_only (left_of outcome (content_of outcome acts file)) (image file) (subst (λ c. IsImage (history c) (image file)) (content_push outcome acts Restarted file) (is file)) in
     subst (IsImage (history (content_of outcome acts file))) (sym only) (left_image outcome (content_of outcome acts file))
-
--- ---- what a read gives
-
-pub changed_bytes : (outcome : Outcome) (acts : List Act) (file : ℕ) (change : Change) → bytes_of (content_of outcome (acts ++ Changed file change ∷ []) file) ≡ changed (bytes_of (content_of outcome acts file)) change
-changed_bytes outcome acts file change =
-    ap bytes_of (content_push outcome acts (Changed file change) file ∙ changed_here outcome file (content_of outcome acts file) change)
-    ∙ replayed_push (content_of outcome acts file).synced (content_of outcome acts file).since change
-
-pub other_bytes : (outcome : Outcome) (acts : List Act) (file other : ℕ) (change : Change) → other ≢ file → bytes_of (content_of outcome (acts ++ Changed file change ∷ []) other) ≡ bytes_of (content_of outcome acts other)
-other_bytes outcome acts file other change apart = ap bytes_of (content_push outcome acts (Changed file change) other ∙ changed_others outcome file change other (content_of outcome acts other) apart)
-
-pub synced_bytes : (outcome : Outcome) (acts : List Act) (file other : ℕ) → bytes_of (content_of outcome (acts ++ Synced file ∷ []) other) ≡ bytes_of (content_of outcome acts other)
-synced_bytes outcome acts file other = ap bytes_of (content_push outcome acts (Synced file) other) ∙ ⊎_elim
-    (λ (here : file ≡ other). ap (λ f. bytes_of (acted outcome f (content_of outcome acts other) (Synced file))) (sym here) ∙ ap bytes_of (synced_here outcome file (content_of outcome acts other)))
-    (λ (apart : file ≢ other). ap bytes_of (synced_others outcome file other (content_of outcome acts other) (λ same. apart (sym same))))
-    (cases_eq file other)
-
-pub write_size : (old written : List ℕ) (at : ℕ) → at ≤ length old → length (put old at written) ≡ max (length old) (at + length written)
-write_size old written at within = omega (arith, put_length old written at)
