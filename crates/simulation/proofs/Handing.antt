@@ -25,7 +25,7 @@ use Rattle.simulation.specs.Calls.{CanServe, Serves, RepliesTo, faults_of, fault
 use Rattle.simulation.specs.Entries.{changes_of, lookup_of, with_one, ended_by}
 use Rattle.simulation.specs.Ranges.{AreRanges}
 use Rattle.simulation.specs.Shows.{SimulationV, Happens, StaysNear, waiting_cmp, server_for, is_up, has_numbers_at}
-use Rattle.simulation.proofs.Changing.{StaysTold, is_for, message_made, some_same, told_stays, up_store, others_stay, rose_at}
+use Rattle.simulation.proofs.Changing.{StaysTold, is_for, message_made, some_same, told_stays, up_store, others_stay, rose_at, faults_same}
 use Rattle.simulation.proofs.Serving.{IsToServe, IsServedStore, IsStoppedStore, served_by, stopped_by, serve_happens, stop_happens, replies_to}
 use Rattle.simulation.proofs.Showing.{happens_from, stays_near}
 use Rattle.simulation.proofs.Standing.{up_with, numbers_with}
@@ -168,6 +168,10 @@ module _ {X : Type 0} (was old : SimulationV X) (server place : ℕ) (store : St
   pub others_for : (new : Store X) (other : ℕ) → server_for (slice_get old.sent place) ≡ Some other → (k : ℕ) → k ≢ other → slice_get (slice_set was.stores server new) k ≡ slice_get old.stores k
   others_for new other meant =
       subst (λ o. (k : ℕ) → k ≢ o → slice_get (slice_set was.stores server new) k ≡ slice_get old.stores k) (meant_for was old server place store same s other meant) (others_stay was old server new same)
+
+  pub kept_for : (faults : X → ℕ) (new : Store X) → faults new.disk ≡ faults store.disk → (other : ℕ) → server_for (slice_get old.sent place) ≡ Some other → faults_of faults (slice_get (slice_set was.stores server new) other) ≡ faults_at faults old other
+  kept_for faults new kept other meant =
+      subst (λ o. faults_of faults (slice_get (slice_set was.stores server new) o) ≡ faults_at faults old o) (meant_for was old server place store same s other meant) (faults_same faults was old server store new same s.to.is kept)
 
   pub rose_for : (faults : X → ℕ) (new : Store X) → Rose (faults store.disk) (faults new.disk) → (other : ℕ) → server_for (slice_get old.sent place) ≡ Some other → Rose (faults_at faults old other) (faults_of faults (slice_get (slice_set was.stores server new) other))
   rose_for faults new rose other meant =

@@ -60,6 +60,7 @@ impl<D: Disk> Simulation<D> {
         ensures ok { IfOk result (λ served. (server : ℕ) → server_for (slice_get self.old.sent place) ≡ Some server → Serves (seen_by D.seen) (images_by D.images) self.old self.new server place served) }
         ensures err { OnErr result (StaysNear (seen_by D.seen) (images_by D.images) self.old self.new) }
         ensures rose { (server : ℕ) → server_for (slice_get self.old.sent place) ≡ Some server → result ≡ Ok Served.Stopped → RoseAt (fused_faults D.faults) self.old self.new server }
+        ensures kept { (server : ℕ) → server_for (slice_get self.old.sent place) ≡ Some server → IfOk result (λ served. (served ≡ Served.Stopped → ⊥) → faults_at (fused_faults D.faults) self.new server ≡ faults_at (fused_faults D.faults) self.old server) }
         ensures licensed { (server : ℕ) → server_for (slice_get self.old.sent place) ≡ Some server → AreLicensed D.faults self.old.stores self.new.stores (stops_of_serve result server) none_at }
         ensures others { (server : ℕ) → server_for (slice_get self.old.sent place) ≡ Some server → OthersStay self.old self.new server }
         ensures setup { self.new.setup ≡ self.old.setup }
@@ -119,6 +120,7 @@ impl<D: Disk> Simulation<D> {
         ensures ok { IfOk result (λ restarted. Restarts (seen_by D.seen) (images_by D.images) self.old self.new server restarted) }
         ensures err { OnErr result (StaysNear (seen_by D.seen) (images_by D.images) self.old self.new) }
         ensures rose { result ≡ Ok Restarted.Stopped → RoseAt (fused_faults D.faults) self.old self.new server }
+        ensures kept { result ≡ Ok Restarted.Up → faults_at (fused_faults D.faults) self.new server ≡ faults_at (fused_faults D.faults) self.old server }
 
         // Where a run is shown, it is refused for want of memory alone.
         ensures fault { IfErr result (λ fault. (run : RunV) → Shows (seen_by D.seen) (images_by D.images) self.old run → fault ≡ StoreFault.OutOfMemory) }
@@ -168,6 +170,7 @@ fn revive<D: Disk>(
     ensures sound { IfErr result (λ fault. (owed : StoreV) → IsDownAt (seen_by D.seen) (images_by D.images) store.old owed → IsRefusal (λ _ _ _. ⊥) (D.seen store.new.disk.inner 1) fault) }
     ensures same { (store.new.server ≡ store.old.server) × (store.new.setup ≡ store.old.setup) }
     ensures rose { IsErrOf result StoreFault.Device → Rose (fused_faults D.faults store.old.disk) (fused_faults D.faults store.new.disk) }
+    ensures kept { OnOk result (fused_faults D.faults store.new.disk ≡ fused_faults D.faults store.old.disk) }
     ensures down { OnErr result (store.new.up ≡ None) }
     ensures lasts { OutlastsBy D.lasts D.faults store.old.disk store.new.disk }
     ensures failed { IsErrOf result StoreFault.Device → FailsBy D.fails D.faults store.old.disk store.new.disk }

@@ -3,7 +3,7 @@ use Rattle.mds_out.specs.Fault.{Rose}
 use Rattle.mds_out.specs.Fused.{Fused, fused_faults}
 use Rattle.simulation.specs.Fuses.{seen_by, images_by}
 use Rattle.simulation.specs.Shows.{SimulationV}
-use Rattle.simulation.proofs.Changing.{on_err, ranged_store, ranged_more, others_stay, rose_at}
+use Rattle.simulation.proofs.Changing.{on_err, ranged_store, ranged_more, others_stay, faults_same, rose_at}
 use Rattle.simulation.proofs.Reviving.{down_at, mended_still, mended_down, mended_faults, revived_on, still_after, revive_done, revive_unmade, revive_failed, revive_refused, refused_memory}
 use Rattle.simulation.proofs.Licensing.{quiet_licensed, stop_licensed}
 use Rattle.simulation.proofs.Paying.{restart_quiet, restart_stop, refused_restarts, restart_unstopped}
@@ -71,6 +71,12 @@ returns-in-Device-clause-ok g c =
     let s = down_at _ _ c.args.server c.index_mut-store.result.now c.self.view_is c.requires.down c.self.invariant.0.stores' c.index_mut-store.ensures.value in
     let m = mended_still g.D.Disk.seen g.D.Disk.images c.index_mut-store.result.now c.mend.new.self c.mend.ensures in
     revive_failed (seen_by g.D.Disk.seen) (images_by g.D.Disk.images) _ _ c.args.server c.index_mut-store.result.now c.revive.new.store c.self.view_is s (still_after (seen_by g.D.Disk.seen) (images_by g.D.Disk.images) c.index_mut-store.result.now c.mend.new.self c.revive.new.store m c.in-Err.ensures.err)
+
+pub returns-in_ok-append-in-Ok-clause-kept : goal.returns-in_ok-append-in-Ok-clause-kept
+returns-in_ok-append-in-Ok-clause-kept g c =
+    let s = down_at _ _ c.args.server c.index_mut-store.result.now c.self.view_is c.requires.down c.self.invariant.0.stores' c.index_mut-store.ensures.value in
+    let m = mended_still g.D.Disk.seen g.D.Disk.images c.index_mut-store.result.now c.mend.new.self c.mend.ensures in
+    λ _. faults_same (fused_faults g.D.Disk.faults) _ _ c.args.server c.index_mut-store.result.now c.revive.new.store c.self.view_is s.is (c.in-Ok.ensures.kept ∙ mended_faults g.D.Disk.seen g.D.Disk.images c.index_mut-store.result.now c.mend.new.self c.mend.ensures g.D.Disk.faults)
 
 pub returns-in-Device-clause-rose : goal.returns-in-Device-clause-rose
 returns-in-Device-clause-rose g c =
