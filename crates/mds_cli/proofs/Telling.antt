@@ -2,6 +2,7 @@
 use Rattle.std.proofs.Common.{◌≡◌, ◌∙◌, sym, ap, subst, refl, ℕ, ◌+◌, ◌≤◌, ◌==◌, Bool, true, false, not, cond, if◌then◌else◌, nat_eq, List, [], ◌∷◌, ◌++◌, length, take, drop, append_assoc, Option, Some, None, codes, decimal, inl, inr, arith}
 use Rattle.std.specs.Cmp.Lexicographic.{pointwise}
 use Rattle.std.specs.Io.KnownBytes.{Consumes}
+use Rattle.std.specs.Fmt.{digits}
 use Rattle.std.specs.List.{AllByRecursion, list_all}
 use Rattle.std.proofs.lemmas.Bool.{true≢false, and_parts, and_from, eqb-true}
 use Rattle.std.proofs.lemmas.List.{append-nil, take-append-drop}
@@ -154,3 +155,13 @@ begun_armed (Some all) line begins s = let e = ap (λ ls. fuses_armed ls s) begi
 pub none_begun : (unread : Option (List ℕ)) (s : ℕ) → OnTold unread (λ all. 0 ≤ fuses_armed (lines_of all) s)
 none_begun None s = tt
 none_begun (Some all) s = none_armed (fuses_armed (lines_of all) s)
+
+-- ---- worked rows
+
+told_row : stops_told (codes "1 1 created\nstopped 1\nstopped 12\n1 stopped 1\nstopped 1\nstopped 1") 1 ≡ 2
+unfolding digits
+told_row = refl
+
+armed_row : fuses_armed (codes "fuse 1 4" ∷ codes "  fuse  1 0 " ∷ codes "fuse 12 1" ∷ codes "# fuse 1 1" ∷ codes "stop 1" ∷ []) 1 ≡ 2
+unfolding digits words_of
+armed_row = refl
