@@ -4,18 +4,14 @@ use Rattle.std.proofs.lemmas.Bool.{cases_eq}
 use Rattle.std.proofs.lemmas.List.{map-append}
 use Rattle.std.proofs.lemmas.Grind.{same_number_lists}
 use Rattle.std.proofs.lemmas.List.Sums.{fold-append}
-use Rattle.mds_out.specs.declared.act.Act.{Act}
-use Rattle.mds_out.specs.declared.act.Act.TheVariants.{Changed, Synced, Restarted}
-use Rattle.mds_out.specs.declared.change.Change.{Change}
-use Rattle.mds_out.specs.declared.change.Change.TheVariants.{Write, Cut}
 use Rattle.mds_out.specs.declared.slots.Slot.{Slot}
 use Rattle.mds_out.specs.declared.outcome.Outcome.{Outcome}
 use Rattle.mds_out.specs.declared.outcome.Outcome.TheVariants.{Old, New, Mixed}
-use Rattle.mds_out.specs.Change.{step_of}
+use Rattle.mds_out.specs.Change.{Change, Write, Cut, step_of}
 use Rattle.mds_out.specs.Content.{Content, at_rest, bytes_of, left_of, with_change, history}
 use Rattle.mds_out.specs.Disk.{Image, Follows}
 use Rattle.mds_out.specs.Images.{History, IsImage, Reaches, Step, Writes, Cuts, history_at_sync, history_of, history_after, IsLed, IsTorn, IsShortened}
-use Rattle.mds_out.specs.Past.{acted, content_of, IsPastImage}
+use Rattle.mds_out.specs.Past.{Act, Changed, Synced, Restarted, acted, content_of, IsPastImage}
 use Rattle.mds_out.specs.Slots.{HoldPast, HaveActed}
 use Rattle.mds_out.specs.ImageLaws.{synced_image}
 use Rattle.mds_out.specs.ContentLaws.{replayed_image}

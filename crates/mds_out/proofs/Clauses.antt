@@ -1,13 +1,11 @@
 -- What a disk in memory owes to the clauses of each disk, by what a call did to its past.
 use Rattle.std.proofs.Common.{◌≡◌, ◌⊎◌, inl, inr, ⊎_elim, ℕ, ◌≤◌, List, length, Some, Result, Ok, Err, refl, sym, ◌∙◌, ap, subst}
-use Rattle.mds_out.specs.declared.act.Act.{Act}
-use Rattle.mds_out.specs.declared.act.Act.TheVariants.{Changed, Synced, Restarted}
-use Rattle.mds_out.specs.declared.change.Change.TheVariants.{Write, Cut}
+use Rattle.mds_out.specs.Change.{Write, Cut}
 use Rattle.mds_out.specs.declared.disk.DiskFault.{DiskFault}
 use Rattle.mds_out.specs.Content.{bytes_of, left_of}
 use Rattle.mds_out.specs.Disk.{Image, Follows, Shows}
 use Rattle.mds_out.specs.Images.{IsTorn, IsShortened}
-use Rattle.mds_out.specs.Past.{Past, content_of, IsPastImage, IsDone, with_act, counted}
+use Rattle.mds_out.specs.Past.{Act, Changed, Synced, Restarted, Past, content_of, IsPastImage, IsDone, with_act, counted}
 use Rattle.mds_out.proofs.Acted.{write_follows, cut_follows, untouched_torn, uncut_shortened, sync_durable, sync_images, restart_left, restart_shows, restart_images}
 
 -- what may be left of a past

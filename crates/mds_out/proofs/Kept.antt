@@ -1,13 +1,16 @@
--- What is kept of a disk in memory, one act more or less.
-use Rattle.std.proofs.Common.{◌≡◌, ◌∙◌, sym, ap, refl, ℕ, zero, suc, ◌+◌, ◌-◌, ◌≤◌, List, [], ◌∷◌, ◌++◌, length, length-append, take, drop, arith}
+-- What is kept of a file and of a disk in memory, one change or act more or less.
+use Rattle.std.proofs.Common.{◌≡◌, ◌∙◌, sym, ap, refl, ℕ, zero, suc, ◌+◌, ◌-◌, ◌<◌, ◌≤◌, Bool, List, [], ◌∷◌, ◌++◌, length, length-append, map, take, drop, get_or, All, arith}
 use Rattle.std.specs.List.{AllByRecursion}
-use Rattle.std.proofs.lemmas.List.{length-drop, length-map, map-append, take-append-le, take-map, take_all, drop-append-le, drop_all}
-use Rattle.mds_out.specs.declared.act.Act.{Act}
-use Rattle.mds_out.specs.declared.act.Act.TheVariants.{Changed}
+use Rattle.std.proofs.lemmas.List.Sums.{fold_more}
+use Rattle.std.proofs.lemmas.List.{get_or-map, length-drop, length-map, map-append, take-append-le, take-map, take_all, drop-append-le, drop_all}
+use Rattle.mds_out.specs.Change.{Change, Write, Cut, changed, redone, change_end}
+use Rattle.mds_out.specs.Content.{replayed}
+use Rattle.mds_out.specs.Past.{Act, Changed}
 use Rattle.mds_out.specs.declared.acts.Kept.{Kept}
 use Rattle.mds_out.specs.declared.acts.Kept.TheVariants as kept
-use Rattle.mds_out.specs.declared.change.Change.TheVariants.{Write}
-use Rattle.mds_out.specs.Kept.{act_in, acts_in, IsWithin}
+use Rattle.mds_out.specs.declared.changes.KeptChange.{KeptChange}
+use Rattle.mds_out.specs.declared.changes.KeptChange.TheVariants as change
+use Rattle.mds_out.specs.Kept.{change_in, changes_in, IsChangeWithin, act_in, acts_in, IsWithin}
 
 -- bytes at a place are the same where more stand behind them
 same_bytes : (written more : List ℕ) (from len : ℕ) → from + len ≤ length written → take len (drop from (written ++ more)) ≡ take len (drop from written)
@@ -21,15 +24,79 @@ new_bytes written bytes =
     ap (take (length bytes)) (drop-append-le (length written) written bytes (omega arith) ∙ ap (λ l. l ++ bytes) (drop_all (length written) written (omega arith)))
     ∙ take_all (length bytes) bytes (omega arith)
 
+-- ---- of one form or the other, by what it needs of the bytes
+
+module _ {K X : Type 0} (shown : List ℕ → K → X) (Within : ℕ → K → Type 0)
+    (same : (written more : List ℕ) (k : K) → Within (length written) k → shown (written ++ more) k ≡ shown written k)
+    (longer : (m n : ℕ) (k : K) → m ≤ n → Within m k → Within n k) where
+  same_all : (written more : List ℕ) (ks : List K) → AllByRecursion (Within (length written)) ks → map (shown (written ++ more)) ks ≡ map (shown written) ks
+  same_all written more [] within = refl
+  same_all written more (k ∷ ks) within = (λ i. same written more k within.0 i ∷ same_all written more ks within.1 i)
+
+  -- one more is within
+  within_one : (m n : ℕ) (ks : List K) (k : K) → m ≤ n → AllByRecursion (Within m) ks → Within n k → AllByRecursion (Within n) (ks ++ k ∷ [])
+  within_one m n [] k le within one = (one, tt)
+  within_one m n (first ∷ ks) k le within one = (longer m n first le within.0, within_one m n ks k le within.1 one)
+
+  -- with one more, whose bytes were put behind
+  written_one : (written bytes : List ℕ) (ks : List K) (k : K) (x : X) → AllByRecursion (Within (length written)) ks → shown (written ++ bytes) k ≡ x
+      → map (shown (written ++ bytes)) (ks ++ k ∷ []) ≡ map (shown written) ks ++ x ∷ []
+  written_one written bytes ks k x within is =
+      map-append (shown (written ++ bytes)) ks (k ∷ [])
+      ∙ (λ i. same_all written bytes ks within i ++ is i ∷ [])
+
+-- ---- changes of a file
+
+same_change : (written more : List ℕ) (k : KeptChange) → IsChangeWithin (length written) k → change_in (written ++ more) k ≡ change_in written k
+same_change written more (change.Write at from len) within = ap (Write at) (same_bytes written more from len within)
+same_change written more (change.Cut to) within = refl
+
+change_longer : (m n : ℕ) (k : KeptChange) → m ≤ n → IsChangeWithin m k → IsChangeWithin n k
+change_longer m n (change.Write at from len) le within = omega (arith, le, within)
+change_longer m n (change.Cut to) le within = tt
+
+pub changes_within : (m n : ℕ) (ks : List KeptChange) (k : KeptChange) → m ≤ n → AllByRecursion (IsChangeWithin m) ks → IsChangeWithin n k → AllByRecursion (IsChangeWithin n) (ks ++ k ∷ [])
+changes_within = within_one change_in IsChangeWithin same_change change_longer
+
+pub changes_push : (written : List ℕ) (ks : List KeptChange) (k : KeptChange) → changes_in written (ks ++ k ∷ []) ≡ changes_in written ks ++ change_in written k ∷ []
+changes_push written ks k = map-append (change_in written) ks (k ∷ [])
+
+-- with a write more
+pub changes_write : (written bytes : List ℕ) (ks : List KeptChange) (at : ℕ) → AllByRecursion (IsChangeWithin (length written)) ks
+    → changes_in (written ++ bytes) (ks ++ change.Write at (length written) (length bytes) ∷ []) ≡ changes_in written ks ++ Write at bytes ∷ []
+changes_write written bytes ks at within =
+    written_one change_in IsChangeWithin same_change change_longer written bytes ks (change.Write at (length written) (length bytes)) (Write at bytes) within (ap (Write at) (new_bytes written bytes))
+
+-- one of them, as it is kept
+change_at : (written : List ℕ) (ks : List KeptChange) (changes : List Change) (i : ℕ) (d : KeptChange) (e : Change) → changes_in written ks ≡ changes → i < length ks
+    → get_or changes i e ≡ change_in written (get_or ks i d)
+change_at written ks changes i d e is here = ap (λ l. get_or l i e) (sym is) ∙ get_or-map (change_in written) ks i d e here
+
+count_of : (written : List ℕ) (ks : List KeptChange) (changes : List Change) → changes_in written ks ≡ changes → length changes ≡ length ks
+count_of written ks changes is = ap length (sym is) ∙ length-map ks (change_in written)
+
+-- it ends within what all end within
+pub change_fits : (n : ℕ) (written : List ℕ) (ks : List KeptChange) (changes : List Change) (i : ℕ) (d : KeptChange) → changes_in written ks ≡ changes → i < length ks
+    → All (λ change. change_end change ≤ n) changes → change_end (change_in written (get_or ks i d)) ≤ n
+change_fits n written ks changes i d is here fit =
+    let same = ap change_end (change_at written ks changes i d (Cut 0) is here) in
+    let within = fit i (Cut 0) (omega (arith, here, count_of written ks changes is)) in
+    omega (arith, same, within)
+
+-- and is done behind those before it
+pub redone_more : (spoil : Bool) (bytes written : List ℕ) (ks : List KeptChange) (changes : List Change) (i : ℕ) (d : KeptChange) → changes_in written ks ≡ changes → i < length ks
+    → replayed spoil bytes (take (i + 1) changes) ≡ changed (replayed spoil bytes (take i changes)) (redone spoil (change_in written (get_or ks i d)))
+redone_more spoil bytes written ks changes i d is here =
+    fold_more (λ now step. changed now (redone spoil step)) bytes changes i (Cut 0) (omega (arith, here, count_of written ks changes is))
+    ∙ ap (λ step. changed (replayed spoil bytes (take i changes)) (redone spoil step)) (change_at written ks changes i d (Cut 0) is here)
+
+-- ---- acts of a disk
+
 same_act : (written more : List ℕ) (k : Kept) → IsWithin (length written) k → act_in (written ++ more) k ≡ act_in written k
 same_act written more (kept.Write file at from len) within = ap (λ b. Changed file (Write at b)) (same_bytes written more from len within)
 same_act written more (kept.Cut file to) within = refl
 same_act written more (kept.Synced file) within = refl
 same_act written more kept.Restarted within = refl
-
-same_acts : (written more : List ℕ) (ks : List Kept) → AllByRecursion (IsWithin (length written)) ks → acts_in (written ++ more) ks ≡ acts_in written ks
-same_acts written more [] within = refl
-same_acts written more (k ∷ ks) within = (λ i. same_act written more k within.0 i ∷ same_acts written more ks within.1 i)
 
 within_more : (m n : ℕ) (k : Kept) → m ≤ n → IsWithin m k → IsWithin n k
 within_more m n (kept.Write file at from len) more within = omega (arith, more, within)
@@ -39,8 +106,7 @@ within_more m n kept.Restarted more within = tt
 
 -- one act more is within
 pub within_push : (m n : ℕ) (ks : List Kept) (k : Kept) → m ≤ n → AllByRecursion (IsWithin m) ks → IsWithin n k → AllByRecursion (IsWithin n) (ks ++ k ∷ [])
-within_push m n [] k more within one = (one, tt)
-within_push m n (first ∷ ks) k more within one = (within_more m n first more within.0, within_push m n ks k more within.1 one)
+within_push = within_one act_in IsWithin same_act within_more
 
 pub within_take : (n count : ℕ) (ks : List Kept) → AllByRecursion (IsWithin n) ks → AllByRecursion (IsWithin n) (take count ks)
 within_take n zero ks within = tt
@@ -55,8 +121,7 @@ acts_push written ks k = map-append (act_in written) ks (k ∷ [])
 pub acts_write : (written bytes : List ℕ) (ks : List Kept) (file at : ℕ) → AllByRecursion (IsWithin (length written)) ks
     → acts_in (written ++ bytes) (ks ++ kept.Write file at (length written) (length bytes) ∷ []) ≡ acts_in written ks ++ Changed file (Write at bytes) ∷ []
 acts_write written bytes ks file at within =
-    acts_push (written ++ bytes) ks (kept.Write file at (length written) (length bytes))
-    ∙ (λ i. same_acts written bytes ks within i ++ Changed file (Write at (new_bytes written bytes i)) ∷ [])
+    written_one act_in IsWithin same_act within_more written bytes ks (kept.Write file at (length written) (length bytes)) (Changed file (Write at bytes)) within (ap (λ b. Changed file (Write at b)) (new_bytes written bytes))
 
 -- without the last one
 pub acts_back : (written : List ℕ) (ks : List Kept) (acts : List Act) (act : Act) → acts_in written ks ≡ acts ++ act ∷ [] → acts_in written (take (length ks - 1) ks) ≡ acts

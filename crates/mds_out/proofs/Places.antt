@@ -2,14 +2,12 @@
 use Rattle.std.proofs.Common.{◌≡◌, ◌≢◌, ⊎_elim, ℕ, zero, suc, List, [], ◌∷◌, ◌++◌, get_or, set, map, cond, nat_eq, refl, sym, ◌∙◌, ap, arith}
 use Rattle.std.proofs.lemmas.Bool.{cases_eq}
 use Rattle.std.proofs.lemmas.Bool.Decides.{nat_tests}
+use Rattle.mds_out.specs.Change.{Change}
 use Rattle.mds_out.specs.declared.slots.Slot.{Slot}
-use Rattle.mds_out.specs.declared.act.Act.{Act}
-use Rattle.mds_out.specs.declared.act.Act.TheVariants.{Changed, Synced, Restarted}
-use Rattle.mds_out.specs.declared.change.Change.{Change}
 use Rattle.mds_out.specs.declared.outcome.Outcome.{Outcome}
 use Rattle.mds_out.specs.declared.outcome.Outcome.TheVariants.{Old, New, Mixed}
 use Rattle.mds_out.specs.Content.{Content, at_rest, bytes_of, left_of, with_change}
-use Rattle.mds_out.specs.Past.{acted}
+use Rattle.mds_out.specs.Past.{Act, Changed, Synced, Restarted, acted}
 use Rattle.mds_out.specs.Slots.{content_in, HasNone, IsFirst, HaveActed, AreAsBefore}
 
 pub equal : {X : Type 0} (a b : ℕ) (x y : X) → a ≡ b → cond (nat_eq a b) x y ≡ x

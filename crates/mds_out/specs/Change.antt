@@ -1,9 +1,11 @@
--- What a change does to the bytes of a file, wholly or torn.
+-- A change of a file, and what it does to the file's bytes, wholly or torn.
 use Rattle.std.specs.Prelude.{ℕ, ◌+◌, ◌-◌, ◌/◌, List, ◌++◌, length, take, replicate, Bool, if◌then◌else◌}
-use Rattle.mds_out.specs.declared.change.Change.{Change}
-use Rattle.mds_out.specs.declared.change.Change.TheVariants.{Write, Cut}
 use Rattle.mds_out.specs.Disk.{put}
 use Rattle.mds_out.specs.Images.{Step, Writes, Cuts}
+
+pub data Change : Type 0 where
+  Write : (at : ℕ) (written : List ℕ) → Change
+  Cut : (to : ℕ) → Change
 
 abbrev pub changed : List ℕ → Change → List ℕ
 changed bytes (Write at written) = put bytes at written

@@ -1,7 +1,6 @@
 -- What a file of a memory disk is: the bytes that its last sync left, and the changes since.
 use Rattle.std.specs.Prelude.{ℕ, List, [], ◌∷◌, ◌++◌, map, fold, true, false, Bool}
-use Rattle.mds_out.specs.declared.change.Change.{Change}
-use Rattle.mds_out.specs.Change.{changed, redone, step_of}
+use Rattle.mds_out.specs.Change.{Change, changed, redone, step_of}
 use Rattle.mds_out.specs.Images.{History, history_at_sync, history_of}
 use Rattle.mds_out.specs.declared.outcome.Outcome.{Outcome}
 use Rattle.mds_out.specs.declared.outcome.Outcome.TheVariants.{Old, New, Mixed}

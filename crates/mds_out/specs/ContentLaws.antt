@@ -1,9 +1,7 @@
 -- What the changes of a file make of it is an image of it. This is proved here, since the laws of a disk rest on it.
 use Rattle.std.proofs.Common.{◌≡◌, ℕ, ◌+◌, ◌-◌, ◌/◌, min, List, [], ◌∷◌, ◌++◌, length, get_or, take, drop, map, replicate, true, false, Bool, refl, ◌∙◌, ap, arith, length-append, length-drop}
 use Rattle.std.proofs.lemmas.List.{length-take, length-take-le, length-replicate, get_or_append_left, get_or-append_right, get_or-take, get_or-drop}
-use Rattle.mds_out.specs.declared.change.Change.{Change}
-use Rattle.mds_out.specs.declared.change.Change.TheVariants.{Write, Cut}
-use Rattle.mds_out.specs.Change.{changed, redone, step_of, half_written}
+use Rattle.mds_out.specs.Change.{Change, Write, Cut, changed, redone, step_of, half_written}
 use Rattle.mds_out.specs.Content.{Content, replayed, history}
 use Rattle.mds_out.specs.Disk.{put}
 use Rattle.mds_out.specs.ImageLaws.{synced_image, steps_image}

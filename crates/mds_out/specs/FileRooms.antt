@@ -1,7 +1,6 @@
 -- What a file in memory keeps true of its two buffers.
 use Rattle.std.specs.Prelude.{◌≡◌, ℕ, ◌≤◌, List, length, take, All}
-use Rattle.mds_out.specs.declared.change.Change.{Change}
-use Rattle.mds_out.specs.Change.{change_end}
+use Rattle.mds_out.specs.Change.{Change, change_end}
 use Rattle.mds_out.specs.Content.{bytes_of}
 
 -- `len` bytes of `current` are the file, `kept_len` bytes of `kept` are the synced file, and both have room for each change

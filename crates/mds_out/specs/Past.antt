@@ -1,14 +1,19 @@
 -- What a disk in memory is: what a restart leaves, the failing calls, and all that was done to it, oldest first.
 use Rattle.std.specs.Prelude.{◌≡◌, ◌≤◌, ℕ, Bool, true, false, List, [], ◌∷◌, ◌++◌, length, take, fold, ◌==◌, if◌then◌else◌, Result, Ok, Err, OnOk, OnErr}
-use Rattle.mds_out.specs.declared.act.Act.{Act}
-use Rattle.mds_out.specs.declared.act.Act.TheVariants.{Changed, Synced, Restarted}
 use Rattle.mds_out.specs.declared.disk.DiskFault.{DiskFault}
 use Rattle.mds_out.specs.declared.disk.DiskFault.TheVariants.{Device, OutOfMemory}
 use Rattle.mds_out.specs.declared.outcome.Outcome.{Outcome}
 use Rattle.mds_out.specs.Calls.{is_failing, next_number}
+use Rattle.mds_out.specs.Change.{Change}
 use Rattle.mds_out.specs.Content.{Content, at_rest, bytes_of, left_of, with_change, history}
 use Rattle.mds_out.specs.Disk.{Image}
 use Rattle.mds_out.specs.Images.{IsImage}
+
+-- One thing that was done.
+pub data Act : Type 0 where
+  Changed : (file : ℕ) (change : Change) → Act
+  Synced : (file : ℕ) → Act
+  Restarted : Act
 
 -- one file after one act
 abbrev pub acted : Outcome → ℕ → Content → Act → Content

@@ -1,11 +1,10 @@
 -- What a disk in memory owes to each disk's laws, proved.
 use Rattle.std.specs.Prelude.{◌≡◌, ◌≤◌, ℕ, List, length, Some, false}
-use Rattle.mds_out.specs.declared.act.Act.{Act}
 use Rattle.mds_out.specs.declared.outcome.Outcome.{Outcome}
 use Rattle.mds_out.specs.Content.{bytes_of, history}
 use Rattle.mds_out.specs.Disk.{Image, Shows}
 use Rattle.mds_out.specs.Images.{IsImage}
-use Rattle.mds_out.specs.Past.{content_of, IsPastImage, IsImageSince}
+use Rattle.mds_out.specs.Past.{Act, content_of, IsPastImage, IsImageSince}
 use Rattle.mds_out.specs.ContentLaws.{replayed_image}
 use Rattle.std.proofs.Common.{ap, subst, sym, arith}
 use Rattle.std.proofs.lemmas.List.{take_all}

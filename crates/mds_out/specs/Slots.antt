@@ -1,10 +1,9 @@
 -- The files of a disk in memory, each in a slot with its number.
 use Rattle.std.specs.Prelude.{◌≡◌, ◌≢◌, ◌<◌, ℕ, List, [], ◌∷◌, length, slice_index_or, ◌==◌, if◌then◌else◌}
 use Rattle.mds_out.specs.declared.slots.Slot.{Slot}
-use Rattle.mds_out.specs.declared.act.Act.{Act}
 use Rattle.mds_out.specs.declared.outcome.Outcome.{Outcome}
 use Rattle.mds_out.specs.Content.{Content, at_rest}
-use Rattle.mds_out.specs.Past.{content_of, acted}
+use Rattle.mds_out.specs.Past.{Act, content_of, acted}
 
 -- the file of this number, in its first slot; an empty one, where it has none
 abbrev pub content_in : List Slot → ℕ → Content

@@ -1,10 +1,8 @@
 //! All that was done to a disk in memory, oldest first.
 ghost use Rattle.std.specs.Prelude.{◌≡◌, ◌∷◌, ◌++◌, [], List, OnOk, OnErr};
-ghost use Rattle.mds_out.specs.declared.act.Act.{Act};
-ghost use Rattle.mds_out.specs.declared.act.Act.TheVariants.{Changed, Synced, Restarted};
-ghost use Rattle.mds_out.specs.declared.change.Change.TheVariants.{Write, Cut};
+ghost use Rattle.mds_out.specs.Change.{Write, Cut};
+ghost use Rattle.mds_out.specs.Past.{Act, Changed, Synced, Restarted};
 
-use crate::change::Change;
 use std::alloc::{AllocError, Global};
 use std::marker::Model;
 
@@ -38,8 +36,8 @@ pub(crate) struct Acts {
 impl Model for Acts {
     ghost use Rattle.std.specs.Prelude.{List, length};
     ghost use Rattle.std.specs.List.{AllByRecursion};
-    ghost use Rattle.mds_out.specs.declared.act.Act.{Act};
     ghost use Rattle.mds_out.specs.Kept.{IsWithin, acts_in};
+    ghost use Rattle.mds_out.specs.Past.{Act};
 
     ghost Value = { List Act };
 
@@ -59,19 +57,8 @@ impl Acts {
         }
     }
 
-    /// Adds a change of a file.
-    pub(crate) fn add_change(&mut self, file: u32, change: &Change) -> Result<(), AllocError>
-        ensures ok { OnOk result (self.new ≡ self.old ++ Changed file change.now ∷ []) }
-        ensures err { OnErr result (self.new ≡ self.old) }
-    {
-        match change {
-            Change::Write { at, bytes } => self.add_write(file, *at, bytes.bytes()),
-            Change::Cut { to } => self.add_cut(file, *to),
-        }
-    }
-
-    // Adds a write.
-    fn add_write(&mut self, file: u32, at: usize, bytes: &[u8]) -> Result<(), AllocError>
+    /// Adds a write.
+    pub(crate) fn add_write(&mut self, file: u32, at: usize, bytes: &[u8]) -> Result<(), AllocError>
         ensures ok { OnOk result (self.new ≡ self.old ++ Changed file (Write at bytes.now) ∷ []) }
         ensures err { OnErr result (self.new ≡ self.old) }
     {
@@ -90,8 +77,8 @@ impl Acts {
         Ok(())
     }
 
-    // Adds a cut.
-    fn add_cut(&mut self, file: u32, to: usize) -> Result<(), AllocError>
+    /// Adds a cut.
+    pub(crate) fn add_cut(&mut self, file: u32, to: usize) -> Result<(), AllocError>
         ensures ok { OnOk result (self.new ≡ self.old ++ Changed file (Cut to) ∷ []) }
         ensures err { OnErr result (self.new ≡ self.old) }
     {

@@ -9,12 +9,12 @@
 //! crash may leave of a file, and `crash_images_law` ties it to the clauses of `Disk`.
 #![tactic(auto)]
 
-mod act;
 mod acts;
+mod buffer;
 mod bytes_in;
 mod bytes_out;
 mod calls;
-mod change;
+mod changes;
 mod disk;
 mod file;
 mod fuse;

@@ -1,27 +1,23 @@
 //! Numbered files in memory, which fail and are torn as their maker said.
 ghost use Rattle.std.specs.Prelude.{◌≡◌, ◌∷◌, ◌++◌, [], ◌+◌, ◌^◌, ◌<◌, ◌≤◌, Some, length, take, drop, OnOk, OnErr, IfOk};
-ghost use Rattle.mds_out.specs.declared.act.Act.TheVariants.{Changed, Synced, Restarted};
-ghost use Rattle.mds_out.specs.declared.change.Change.TheVariants.{Write, Cut};
 ghost use Rattle.mds_out.specs.Calls.{failed_calls};
-ghost use Rattle.mds_out.specs.Change.{change_end};
+ghost use Rattle.mds_out.specs.Change.{Write, Cut};
 ghost use Rattle.mds_out.specs.Content.{bytes_of};
 ghost use Rattle.mds_out.specs.Disk.{HasDiskCause};
 ghost use Rattle.mds_out.specs.Fault.{Rose};
 ghost use Rattle.mds_out.specs.FaultLaws.{same_count, no_fewer_on, rose_on, rose_after};
 ghost use Rattle.mds_out.specs.PastLaws.{tells_length, reads_as, counts_now, only_now};
-ghost use Rattle.mds_out.specs.Past.{content_of, IsPastImage, IsImageSince, IsDone, IsLooked};
+ghost use Rattle.mds_out.specs.Past.{Changed, Synced, Restarted, content_of, IsPastImage, IsImageSince, IsDone, IsLooked};
 
 use crate::acts::Acts;
 use crate::calls::Calls;
-use crate::change::{Change, Written};
-use crate::slots::{Slot, change_file, length_of, read_file, restart_files, sync_file};
+use crate::slots::{Slot, cut_file, length_of, read_file, restart_files, sync_file, write_file};
 use crate::{Disk, DiskFault, Outcome};
 use std::alloc::{AllocError, Global};
 use std::marker::Model;
 
 /// A disk in memory. A write costs the bytes written, a read the bytes read, and a sync what was written since the
-/// last one of its file. For its images it keeps each change, in one buffer for the
-/// bytes of all writes.
+/// last one of its file. For its images it keeps each change, in one buffer for the bytes of all writes.
 #[derive(Drop)]
 pub struct Memory {
     alloc: Global,
@@ -57,13 +53,29 @@ impl Memory {
         })
     }
 
-    fn change(&mut self, file: u32, change: Change) -> Result<(), AllocError>
-        requires { change_end change < 2 ^ 63 }
-        ensures ok { OnOk result (self.new ≡ record self.old { acts = self.old.acts ++ Changed file change ∷ [] }) }
+    // Writes to one file.
+    fn add_write(&mut self, file: u32, at: usize, bytes: &[u8]) -> Result<(), AllocError>
+        requires { at + length bytes.now < 2 ^ 63 }
+        ensures ok { OnOk result (self.new ≡ record self.old { acts = self.old.acts ++ Changed file (Write at bytes.now) ∷ [] }) }
         ensures err { OnErr result (self.new ≡ self.old) }
     {
-        self.acts.add_change(file, &change)?;
-        match change_file(self.alloc, &mut self.slots, file, change) {
+        self.acts.add_write(file, at, bytes)?;
+        match write_file(self.alloc, &mut self.slots, file, at, bytes) {
+            Ok(()) => Ok(()),
+            Err(error) => {
+                self.acts.take_back();
+                Err(error)
+            }
+        }
+    }
+
+    // Cuts one file.
+    fn add_cut(&mut self, file: u32, to: usize) -> Result<(), AllocError>
+        ensures ok { OnOk result (self.new ≡ record self.old { acts = self.old.acts ++ Changed file (Cut to) ∷ [] }) }
+        ensures err { OnErr result (self.new ≡ self.old) }
+    {
+        self.acts.add_cut(file, to)?;
+        match cut_file(self.alloc, &mut self.slots, file, to) {
             Ok(()) => Ok(()),
             Err(error) => {
                 self.acts.take_back();
@@ -108,14 +120,7 @@ impl Memory {
         if self.calls.make().is_err() {
             return Err(DiskFault::Device);
         }
-        let bytes = Written::of(self.alloc, bytes)?;
-        self.change(
-            file,
-            Change::Write {
-                at: at as usize,
-                bytes,
-            },
-        )?;
+        self.add_write(file, at as usize, bytes)?;
         Ok(())
     }
 
@@ -126,7 +131,7 @@ impl Memory {
         if self.calls.make().is_err() {
             return Err(DiskFault::Device);
         }
-        self.change(file, Change::Cut { to: to as usize })?;
+        self.add_cut(file, to as usize)?;
         Ok(())
     }
 

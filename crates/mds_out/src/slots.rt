@@ -1,12 +1,11 @@
 //! The files of a disk in memory, found by their numbers.
 ghost use Rattle.std.specs.Prelude.{◌≡◌, ◌+◌, ◌^◌, ◌<◌, ◌≤◌, length, take, drop, MatchOption, IfOk, OnOk, OnErr};
-ghost use Rattle.mds_out.specs.Change.{change_end};
+ghost use Rattle.mds_out.specs.Change.{Write, Cut};
 ghost use Rattle.mds_out.specs.Content.{bytes_of};
+ghost use Rattle.mds_out.specs.Past.{Changed, Synced, Restarted};
 ghost use Rattle.mds_out.specs.Slots.{content_in, HaveActed, AreAsBefore, HasNone, IsFirst};
-ghost use Rattle.mds_out.specs.declared.act.Act.TheVariants.{Changed, Synced, Restarted};
 
 use crate::Outcome;
-use crate::change::Change;
 use crate::file::File;
 use std::alloc::{AllocError, Global};
 
@@ -62,19 +61,34 @@ fn place_for(alloc: Global, slots: &mut Vec<Slot>, number: u32) -> Result<usize,
     Ok(slots.len() - 1)
 }
 
-/// Changes one file.
-pub(crate) fn change_file(
+/// Writes to one file.
+pub(crate) fn write_file(
     alloc: Global,
     slots: &mut Vec<Slot>,
     number: u32,
-    change: Change,
+    at: usize,
+    bytes: &[u8],
 ) -> Result<(), AllocError>
-    requires { change_end change < 2 ^ 63 }
-    ensures ok { OnOk result ((outcome : _) → HaveActed outcome (Changed number change) slots.old.items slots.new.items) }
+    requires { at + length bytes.now < 2 ^ 63 }
+    ensures ok { OnOk result ((outcome : _) → HaveActed outcome (Changed number (Write at bytes.now)) slots.old.items slots.new.items) }
     ensures err { OnErr result (AreAsBefore slots.old.items slots.new.items) }
 {
     let place = place_for(alloc, slots, number)?;
-    slots[place].file.change(change)
+    slots[place].file.write(at, bytes)
+}
+
+/// Cuts one file.
+pub(crate) fn cut_file(
+    alloc: Global,
+    slots: &mut Vec<Slot>,
+    number: u32,
+    to: usize,
+) -> Result<(), AllocError>
+    ensures ok { OnOk result ((outcome : _) → HaveActed outcome (Changed number (Cut to)) slots.old.items slots.new.items) }
+    ensures err { OnErr result (AreAsBefore slots.old.items slots.new.items) }
+{
+    let place = place_for(alloc, slots, number)?;
+    slots[place].file.cut(to)
 }
 
 /// Syncs one file.

@@ -1,7 +1,7 @@
 use Rattle.std.proofs.Common.{◌≡◌, ◌∙◌, ap, length, ◌++◌, ◌∷◌, [], arith, rules}
-use Rattle.mds_out.specs.declared.act.Act.TheVariants.{Changed}
+use Rattle.mds_out.specs.Past.{Changed}
+use Rattle.mds_out.specs.Change.{Write}
 use Rattle.mds_out.specs.declared.acts.Kept.TheVariants as kept
-use Rattle.mds_out.specs.declared.change.Change.TheVariants.{Write}
 use Rattle.mds_out.specs.Kept.{acts_in}
 use Rattle.mds_out.proofs.Kept.{acts_write}
 use Rattle.mds_out.proofs.acts.Acts.add_write.Goals as goal

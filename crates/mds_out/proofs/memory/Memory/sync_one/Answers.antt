@@ -1,4 +1,4 @@
-use Rattle.mds_out.specs.declared.act.Act.TheVariants.{Synced}
+use Rattle.mds_out.specs.Past.{Synced}
 use Rattle.mds_out.proofs.Acted.{hold_push}
 use Rattle.mds_out.proofs.memory.Memory.sync_one.Goals as goal
 

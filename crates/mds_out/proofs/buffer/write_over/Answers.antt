@@ -1,7 +1,7 @@
 use Rattle.std.proofs.Common.{◌≡◌, ◌+◌, ◌-◌, max, length, take, arith, refl, ap, ◌∙◌, rules}
 use borrow.Rule.Slice.PartMut.{put_mid}
 use Rattle.mds_out.proofs.Writes.{written_mid}
-use Rattle.mds_out.proofs.change.write_over.Goals as goal
+use Rattle.mds_out.proofs.buffer.write_over.Goals as goal
 
 pub returns-clause-written : goal.returns-clause-written
 returns-clause-written c =

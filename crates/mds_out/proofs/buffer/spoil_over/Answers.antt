@@ -1,7 +1,7 @@
 use Rattle.std.proofs.Common.{◌≡◌, ◌+◌, ◌-◌, ◌/◌, max, length, take, replicate, arith, refl, ap, ◌∙◌, rules}
 use Rattle.mds_out.proofs.Writes.{spoilt_mid, part_length}
 use Rattle.std.proofs.lemmas.List.{length-take-le}
-use Rattle.mds_out.proofs.change.spoil_over.Goals as goal
+use Rattle.mds_out.proofs.buffer.spoil_over.Goals as goal
 
 pub returns-clause-written : goal.returns-clause-written
 returns-clause-written c =

@@ -1,6 +1,0 @@
-use Rattle.std.proofs.lemmas.Result.{on_ok_weaker}
-use Rattle.mds_out.proofs.Places.{changed_place}
-use Rattle.mds_out.proofs.slots.change_file.Goals as goal
-
-pub returns-clause-ok : goal.returns-clause-ok
-returns-clause-ok c = on_ok_weaker c.change.result (changed_place c.args.slots.now.items c.place_for.new.slots.items c.args.number c.in_ok-place.place c.index_mut.result.now c.change.new.self c.args.change c.place_for.ensures.same c.in_ok-place.ensures.found c.index_mut.ensures.value) c.change.ensures.ok
