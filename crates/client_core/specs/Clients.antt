@@ -3,6 +3,7 @@ use Rattle.std.specs.Prelude.{◌≡◌, ℕ, ◌+◌, ◌^◌, ◌<◌, List, O
 use Rattle.std.specs.Ordering.{nat_cmp}
 use Rattle.std.specs.FinMap as map
 use Rattle.std.specs.FinSet as set
+use Rattle.mds_base.specs.Calls.{dir_of}
 use Rattle.mds_base.specs.declared.TheConstants.{RADIX}
 use Rattle.mds_base.specs.declared.setup.Setup.{Setup}
 use Rattle.mds_base.specs.declared.call.Call.{Call}
@@ -39,18 +40,6 @@ bits_in client dir = unwrap_or (map.get client.bits dir) zero_bits
 -- the partition that the client locates for a name of a directory
 abbrev pub located_in : ClientV → ℕ → List ℕ → ℕ
 located_in client dir name = located RADIX (hash_of name) (has (bits_in client dir))
-
--- the directory of a call
-abbrev pub dir_of : Call → ℕ
-dir_of (Create dir name) = dir
-dir_of (Mkdir dir name) = dir
-dir_of (Remove dir name) = dir
-dir_of (Lookup dir name) = dir
-dir_of (Setattr dir name mode size) = dir
-dir_of (Scan dir) = dir
-dir_of (Grab dir name count) = dir
-dir_of (Load dir rows) = dir
-dir_of (Link dir name id) = dir
 
 -- the partition to which the client sends a call; a load goes to partition 0, and so does the first page of a scan
 abbrev pub target_of : ClientV → Call → ℕ

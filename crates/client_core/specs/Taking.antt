@@ -10,7 +10,8 @@ use Rattle.bitmap.specs.Bits.{Bits}
 use Rattle.client_core.specs.declared.client.Pending.{Pending}
 use Rattle.client_core.specs.declared.taken.Taken.{Taken}
 use Rattle.client_core.specs.declared.taken.Taken.TheVariants as variants
-use Rattle.client_core.specs.Clients.{ClientV, dir_of, target_of, merged, resent}
+use Rattle.client_core.specs.Clients.{ClientV, target_of, merged, resent}
+use Rattle.mds_base.specs.Calls.{dir_of}
 
 abbrev pub is_said : Reply → Bool
 is_said (Said said) = true

@@ -3,7 +3,8 @@ ghost use Rattle.std.specs.FinMap as map;
 ghost use Rattle.std.specs.Ordering.{nat_cmp};
 ghost use Rattle.std.specs.FinSet as set;
 ghost use Rattle.bitmap.specs.Bits.{Bits};
-ghost use Rattle.client_core.specs.Clients.{new_client, bits_in, dir_of, target_of, zero_bits, request_of, cursor_of, issued, issue_msg, merged, located_in, attempt_of, HasPending, HasRoom, SendsAgain};
+ghost use Rattle.client_core.specs.Clients.{new_client, bits_in, target_of, zero_bits, request_of, cursor_of, issued, issue_msg, merged, located_in, attempt_of, HasPending, HasRoom, SendsAgain};
+ghost use Rattle.mds_base.specs.Calls.{dir_of};
 ghost use Rattle.client_core.specs.Taking.{take, fits, is_said, answered_if, present_at, answers_at, redirects_at, redirected_at, IsTaken};
 ghost use Rattle.client_core.specs.Ranges.{AreRanges};
 
@@ -135,7 +136,7 @@ impl Client {
         requires { dir_of call.now < 2 ^ 48 }
         ensures { IfOk result (λ msg. msg ≡ request_of self.now seq attempt call.now) }
     {
-        let server = server_of(dir_of(call), self.target(call), self.setup.servers);
+        let server = server_of(call.dir(), self.target(call), self.setup.servers);
         let copy = call.copy(alloc)?;
         Ok(Msg::Request {
             server,
@@ -282,7 +283,7 @@ impl Client {
         match &self.pending {
             None => false,
             Some(pending) => {
-                (seq == self.seq && attempt == pending.attempt) && dir == dir_of(&pending.call)
+                (seq == self.seq && attempt == pending.attempt) && dir == pending.call.dir()
             }
         }
     }
@@ -325,22 +326,6 @@ fn put_bits(bits: &mut BTreeMap<u64, Bitmap>, dir: u64, bitmap: Bitmap) -> Resul
 {
     bits.insert(dir, bitmap)?;
     Ok(())
-}
-
-fn dir_of(call: &Call) -> u64
-    ensures { result ≡ dir_of call.now }
-{
-    match call {
-        Call::Create { dir, .. } => *dir,
-        Call::Mkdir { dir, .. } => *dir,
-        Call::Remove { dir, .. } => *dir,
-        Call::Lookup { dir, .. } => *dir,
-        Call::Setattr { dir, .. } => *dir,
-        Call::Scan { dir } => *dir,
-        Call::Grab { dir, .. } => *dir,
-        Call::Load { dir, .. } => *dir,
-        Call::Link { dir, .. } => *dir,
-    }
 }
 
 fn first_cursor(call: &Call) -> Option<Cursor>

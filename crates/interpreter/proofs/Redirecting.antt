@@ -8,7 +8,8 @@ use Rattle.mds_out.specs.Disk.{Image, Contents}
 use Rattle.mds_base.specs.declared.reply.Reply.{Reply}
 use Rattle.client_core.specs.declared.client.Pending.{Pending}
 use Rattle.client_core.specs.declared.taken.Taken.{Taken}
-use Rattle.client_core.specs.Clients.{ClientV, dir_of}
+use Rattle.client_core.specs.Clients.{ClientV}
+use Rattle.mds_base.specs.Calls.{dir_of}
 use Rattle.client_core.specs.Taking as taking
 use Rattle.records.specs.declared.msg.Msg.{Msg}
 use Rattle.records.specs.declared.msg.Msg.TheVariants as msgs

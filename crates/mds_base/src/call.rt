@@ -1,4 +1,5 @@
 ghost use Rattle.std.specs.Prelude.{◌≡◌, IfOk};
+ghost use Rattle.mds_base.specs.Calls.{dir_of};
 
 use crate::name::Name;
 use crate::row::RowList;
@@ -58,6 +59,23 @@ pub enum Call {
 }
 
 impl Call {
+    /// The number of the directory that the call is on.
+    pub fn dir(&self) -> u64
+        ensures { result ≡ dir_of self.now }
+    {
+        match self {
+            Call::Create { dir, .. } => *dir,
+            Call::Mkdir { dir, .. } => *dir,
+            Call::Remove { dir, .. } => *dir,
+            Call::Lookup { dir, .. } => *dir,
+            Call::Setattr { dir, .. } => *dir,
+            Call::Scan { dir } => *dir,
+            Call::Grab { dir, .. } => *dir,
+            Call::Load { dir, .. } => *dir,
+            Call::Link { dir, .. } => *dir,
+        }
+    }
+
     /// A copy of the call; it is refused only where there is no memory for it.
     pub fn copy(&self, alloc: Global) -> Result<Call, AllocError>
         ensures { IfOk result (λ call. call ≡ self.now) }

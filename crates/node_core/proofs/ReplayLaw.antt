@@ -12,7 +12,8 @@ use Rattle.node_core.specs.Rules.{Asked, ChangeOf, LookOf, NotServed, asked_of, 
 use Rattle.node_core.specs.Serving.{serve, served_as, carries, carried_at, part_at, replayed_all, may_carry}
 use Rattle.node_core.proofs.Replayed.{owned_of, same_final_self, follows_so}
 
-no_look : (b : Bool) (reply : Reply) (said : Final) → cond b (Looks reply) Silent ≡ Carries said → ⊥
+-- a message that looks carries nothing out
+pub no_look : (b : Bool) (reply : Reply) (said : Final) → cond b (Looks reply) Silent ≡ Carries said → ⊥
 no_look true reply said e = cc
 no_look false reply said e = cc
 

@@ -1,7 +1,6 @@
 -- The ranges of a node's numbers.
 use Rattle.std.specs.Prelude.{ℕ, ◌^◌, ◌<◌, ◌≤◌}
-use Rattle.mds_base.specs.declared.call.Call.{Call}
-use Rattle.mds_base.specs.declared.call.Call.TheVariants.{Create, Mkdir, Remove, Lookup, Setattr, Scan, Grab, Load, Link}
+use Rattle.mds_base.specs.Calls.{dir_of}
 use Rattle.records.specs.declared.record.Record.{Record}
 use Rattle.records.specs.declared.record.Record.TheVariants.{Served}
 use Rattle.records.specs.declared.msg.Msg.{Msg}
@@ -12,18 +11,6 @@ pub record AreRanges (server : ℕ) (setup : Setup) : Type 0 where
   pub in_setup : server < setup.servers
   pub servers : setup.servers ≤ 32
   pub lease : setup.lease ≤ 1000000
-
--- the directory of a call
-abbrev pub dir_of : Call → ℕ
-dir_of (Create dir name) = dir
-dir_of (Mkdir dir name) = dir
-dir_of (Remove dir name) = dir
-dir_of (Lookup dir name) = dir
-dir_of (Setattr dir name mode size) = dir
-dir_of (Scan dir) = dir
-dir_of (Grab dir name count) = dir
-dir_of (Load dir rows) = dir
-dir_of (Link dir name id) = dir
 
 -- a request is on a directory whose number is within its range
 abbrev pub DirFits : Msg → Type 0

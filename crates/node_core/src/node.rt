@@ -11,7 +11,8 @@ ghost use Rattle.records.specs.declared.msg.Msg.{Msg};
 ghost use Rattle.node_core.specs.Planning.{noted_by, written_by, IsNewer, IsPlanOf, IsPlan};
 ghost use Rattle.node_core.specs.Serving.{serve, serve_ask, IsServed, IsReplayed, may_carry, restarted, is_head, reminders};
 ghost use Rattle.node_core.specs.Undoing.{before, before_in, undone};
-ghost use Rattle.node_core.specs.Ranges.{DirFits, RecordFits, dir_of};
+ghost use Rattle.node_core.specs.Ranges.{DirFits, RecordFits};
+ghost use Rattle.mds_base.specs.Calls.{dir_of};
 
 use crate::part::{Part, Weighed, weigh};
 use crate::plan::{Change, Plan};

@@ -1,5 +1,6 @@
 ghost use Rattle.std.specs.Prelude.{◌^◌, ◌<◌};
-ghost use Rattle.node_core.specs.Ranges.{DirFits, dir_of};
+ghost use Rattle.node_core.specs.Ranges.{DirFits};
+ghost use Rattle.mds_base.specs.Calls.{dir_of};
 
 use crate::Node;
 use mds_base::{Ask, Call, Final, MapRows, Name, Reply, Setup};

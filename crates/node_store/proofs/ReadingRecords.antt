@@ -18,7 +18,8 @@ use Rattle.records.specs.Reading.{record_at}
 use Rattle.records.proofs.Decoding.{Decodes, same_ok}
 use Rattle.records.proofs.Records.{record_reads}
 use Rattle.node_core.specs.Nodes.{NodeV, StoreV}
-use Rattle.node_core.specs.Ranges.{RecordFits, dir_of}
+use Rattle.node_core.specs.Ranges.{RecordFits}
+use Rattle.mds_base.specs.Calls.{dir_of}
 use Rattle.node_core.specs.Serving.{may_follow, replayed, replayed_all, IsReplayed}
 use Rattle.node_store.specs.Damage.{NoneFollows}
 use Rattle.node_store.specs.Stands.{all_follow}

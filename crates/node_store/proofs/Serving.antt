@@ -27,7 +27,7 @@ use Rattle.sessions.specs.Kept.{judge_kept}
 use Rattle.node_core.specs.Nodes.{NodeV, StoreV, has_numbers, end_of_numbers, owns, session_in, row_in}
 use Rattle.node_core.specs.Rules.{Asked, ChangeOf, LookOf, NotServed, asked_of, said_of, said_in, Outcome, Silent, Looks, Repeats, Carries, by_judged, outcome, outcome_of}
 use Rattle.node_core.specs.Serving.{serve, served_as, part_at, may_carry, is_new_change, replayed_all}
-use Rattle.node_core.proofs.ReplayLaw.{replay_law}
+use Rattle.node_core.proofs.ReplayLaw.{no_look, replay_law}
 use Rattle.node_core.proofs.Replayed.{follows_so}
 use Rattle.node_store.proofs.ReadingNodes.{still_all}
 use Rattle.node_store.specs.Parts.{IsNodeOf}
@@ -107,10 +107,6 @@ pub record AreServed (store : StoreV) (items : List Record) : Type 0 where
 
 no_records : (store : StoreV) → AreServed store []
 no_records store = record { each = tt; follow = refl; few = omega arith }
-
-no_look : (b : Bool) (reply : Reply) (said : Final) → cond b (Looks reply) Silent ≡ Carries said → ⊥
-no_look true reply said e = cc
-no_look false reply said e = cc
 
 judged_new : (j : Judged) (own said : Final) → by_judged j own ≡ Carries said → (is_new_change j ≡ true) × (said ≡ own)
 judged_new New own said e = (refl, cc)

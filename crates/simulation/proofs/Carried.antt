@@ -15,7 +15,8 @@ use Rattle.mds_out.specs.Disk.{Image, Contents}
 use Rattle.records.specs.declared.msg.Msg.{Msg}
 use Rattle.client_core.specs.declared.client.Pending.{Pending}
 use Rattle.client_core.specs.declared.taken.Taken.{Taken}
-use Rattle.client_core.specs.Clients.{ClientV, HasPending, HasRoom, SendsAgain, dir_of, request_of, issued, issue_msg, resent, resend_msg}
+use Rattle.client_core.specs.Clients.{ClientV, HasPending, HasRoom, SendsAgain, request_of, issued, issue_msg, resent, resend_msg}
+use Rattle.mds_base.specs.Calls.{dir_of}
 use Rattle.client_core.specs.Taking as taking
 use Rattle.node_store.specs.Serve.{IsWellMade}
 use Rattle.node_store.specs.Store.{Store}

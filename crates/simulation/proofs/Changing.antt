@@ -6,6 +6,7 @@ use Rattle.std.proofs.lemmas.List.{append-nil}
 use Rattle.std.proofs.lemmas.Option.{get_or_from_slice_get, slice_get_read}
 use Rattle.mds_base.specs.declared.ask.Ask.{Ask}
 use Rattle.mds_base.specs.declared.setup.Setup.{Setup}
+use Rattle.gate_log.specs.Calls.{StaysTold}
 use Rattle.mds_out.specs.Disk.{Image, Contents, Tells}
 use Rattle.mds_out.specs.Fault.{Rose}
 use Rattle.records.specs.declared.msg.Msg.{Msg}
@@ -123,10 +124,6 @@ server_there setup now count stores clients sent r msgs at msg result same below
     subst (λ o. MatchOption o (Unit {0}) (λ server. server < setup.servers)) (sym is) (for_there setup.servers msg (r.sent'.at at msg there))
 
 -- What stays
-
--- a disk tells a file where it told it before
-abbrev pub StaysTold : Option (List ℕ) → Option (List ℕ) → Type 0
-StaysTold before now = Tells before now (λ old new. Unit {0})
 
 pub told_stays : (before now : Option (List ℕ)) → StaysTold before now → is_some before ≡ true → is_some now ≡ true
 told_stays None now stays told = cc

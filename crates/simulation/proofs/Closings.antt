@@ -12,6 +12,7 @@ use Rattle.world.specs.Events.{up_with}
 use Rattle.world.specs.Histories.{Trace, happens, run}
 use Rattle.world.specs.Law.{closing, ended}
 use Rattle.world.specs.Lists.{Each}
+use Rattle.world.proofs.Ends.{closing_if, same_state, above}
 use Rattle.world.proofs.Grow.{set_here, set_apart, length_set}
 
 -- a server once those that were down came up again
@@ -37,12 +38,6 @@ record ClosesFrom (keep : ℕ → Bool) (s : ℕ) (states before after : List Se
   pub front : (j : ℕ) → j < s → slice_get after j ≡ slice_get before j
   pub each : (k : ℕ) (state : ServerState) → slice_get states k ≡ Some state → slice_get after (s + k) ≡ Some (closed_state (keep (s + k)) state)
 
-abbrev closing_if : (ℕ → Bool) → ServerState → List ServerState → ℕ → Bool → List Event
-closing_if keep state states s up = cond up (closing keep states (s + 1)) (Restart s (cond (keep s) (length state.doubt) 0) ∷ closing keep states (s + 1))
-
-same_state : {x y : ServerState} → Some x ≡ Some y → x ≡ y
-same_state e = cc
-
 from_next : (servers : List ServerState) (s : ℕ) (state : ServerState) (states : List ServerState) → IsFrom servers s (state ∷ states) → IsFrom servers (s + 1) states
 from_next servers s state states f = record {
   rest = λ k. let z : (s + 1) + k ≡ s + suc k = omega arith in ap (slice_get servers) z ∙ f.rest (suc k);
@@ -50,9 +45,6 @@ from_next servers s state states f = record {
 
 apart_from : (j s : ℕ) → j < s → j ≡ s → ⊥
 apart_from j s lt e = absurd (omega (arith, e))
-
-above : (s k : ℕ) → (s + 1) + k ≡ s → ⊥
-above s k e = absurd (omega (arith, e))
 
 from_set : (servers : List ServerState) (s : ℕ) (state new : ServerState) (states : List ServerState) → IsFrom servers s (state ∷ states) → IsFrom (slice_set servers s new) (s + 1) states
 from_set servers s state new states f = record {

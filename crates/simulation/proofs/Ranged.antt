@@ -10,7 +10,8 @@ use Rattle.records.specs.declared.msg.Msg.{Msg}
 use Rattle.records.specs.declared.msg.Msg.TheVariants.{Request, Redirect, Answer, Busy, Held, Transfer, Installed}
 use Rattle.bitmap.specs.Bits.{Bits}
 use Rattle.client_core.specs.declared.client.Pending.{Pending}
-use Rattle.client_core.specs.Clients.{ClientV, dir_of, target_of, issued, issue_msg, resent, resend_msg, merged, request_of}
+use Rattle.client_core.specs.Clients.{ClientV, target_of, issued, issue_msg, resent, resend_msg, merged, request_of}
+use Rattle.mds_base.specs.Calls.{dir_of}
 use Rattle.client_core.specs.Taking.{take, take_at, take_pending, answered_if, redirected_if, busy_if, held_if}
 use Rattle.node_store.specs.Serve.{IsWellMade}
 use Rattle.node_store.specs.Store.{Store}

@@ -94,7 +94,7 @@ pub record Closes (t : Trace) (s : ℕ) (states : List ServerState) : Type 0 whe
   pub before : (j : ℕ) (x : ServerState) → j < s → slice_get t.world.servers j ≡ Some x → x.up ≡ true
 
 -- the restarts where the first server is up, and where it is down
-abbrev closing_if : (ℕ → Bool) → ServerState → List ServerState → ℕ → Bool → List Event
+abbrev pub closing_if : (ℕ → Bool) → ServerState → List ServerState → ℕ → Bool → List Event
 closing_if keep state states s up = cond up (closing keep states (s + 1)) (Restart s (cond (keep s) (length state.doubt) 0) ∷ closing keep states (s + 1))
 
 pub record ClosedBy (t : Trace) (events' : List Event) : Type 0 where
@@ -111,7 +111,7 @@ can keep s o state is down =
     subst (λ x. can_restart x (cond (keep s) (length state.doubt) 0) ≡ true) (sym is)
     (and_from (not state.up) _ (ap not down) (count_of (keep s) (length state.doubt)))
 
-same_state : {x y : ServerState} → Some x ≡ Some y → x ≡ y
+pub same_state : {x y : ServerState} → Some x ≡ Some y → x ≡ y
 same_state e = cc
 
 below_or_from : (j s : ℕ) → (j < s) ⊎ ((k : ℕ) × (j ≡ s + k))
@@ -122,7 +122,7 @@ below_or_from (suc j) (suc s) = elim (below_or_from j s) [
   | inr k ↦ inr (k.0, (let e = k.1 in omega (arith, e)))
 ]
 
-above : (s k : ℕ) → (s + 1) + k ≡ s → ⊥
+pub above : (s k : ℕ) → (s + 1) + k ≡ s → ⊥
 above s k e = absurd (omega (arith, e))
 
 -- servers in which this one was set to one that is up

@@ -22,7 +22,8 @@ use Rattle.std.proofs.lemmas.Bool.{and_parts}
 use Rattle.node_core.specs.Nodes.{has_numbers}
 use Rattle.node_core.specs.Serving.{serve_all, replayed_all}
 use Rattle.client_core.specs.declared.client.Pending.{Pending}
-use Rattle.client_core.specs.Clients.{issue_msg, resend_msg, resent, merged, bits_in, dir_of, target_of, cursor_of}
+use Rattle.client_core.specs.Clients.{issue_msg, resend_msg, resent, merged, bits_in, target_of, cursor_of}
+use Rattle.mds_base.specs.Calls.{dir_of}
 use Rattle.client_core.specs.Taking as taking
 use Rattle.client_core.specs.Taking.{is_present, fits, take_pending, take_at}
 use Rattle.world.specs.declared.event.Event.{Event}

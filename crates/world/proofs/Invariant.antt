@@ -23,7 +23,8 @@ use Rattle.node_core.specs.Nodes.{StoreV, new_node, first_number, end_of_numbers
 use Rattle.node_core.specs.Rules.{ChangeOf, LookOf, asked_of, said_in}
 use Rattle.node_core.specs.Serving.{carried_at}
 use Rattle.client_core.specs.declared.client.Pending.{Pending}
-use Rattle.client_core.specs.Clients.{ClientV, dir_of, bits_in}
+use Rattle.client_core.specs.Clients.{ClientV, bits_in}
+use Rattle.mds_base.specs.Calls.{dir_of}
 use Rattle.world.specs.declared.state.ServerState.{ServerState}
 use Rattle.world.specs.declared.state.ClientState.{ClientState}
 use Rattle.world.specs.Lists.{Each, Among, OnceBy}

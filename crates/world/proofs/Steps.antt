@@ -18,7 +18,8 @@ use Rattle.node_core.specs.Nodes.{server_for, part_for, row_in}
 use Rattle.node_core.specs.Rules.{ChangeOf, LookOf, asked_of, said_in, found}
 use Rattle.node_core.specs.Serving.{carried}
 use Rattle.client_core.specs.declared.client.Pending.{Pending}
-use Rattle.client_core.specs.Clients.{dir_of, issued, resent, merged}
+use Rattle.client_core.specs.Clients.{issued, resent, merged}
+use Rattle.mds_base.specs.Calls.{dir_of}
 use Rattle.client_core.specs.Taking.{closed}
 use Rattle.world.specs.declared.state.ServerState.{ServerState}
 use Rattle.world.specs.declared.state.ClientState.{ClientState}

@@ -12,7 +12,7 @@ use Rattle.mds_base.specs.declared.reply.Reply.TheVariants.{Said, Found}
 use Rattle.mds_base.specs.Entries.{Place, Entries, edited, is_file}
 use Rattle.mds_base.specs.PlainRules.{Allows, after, edit_of, given_by}
 use Rattle.node_core.specs.Rules.{Asked, ChangeOf, LookOf, NotServed, asked_of, said_of, found}
-use Rattle.client_core.specs.Clients.{dir_of}
+use Rattle.mds_base.specs.Calls.{dir_of}
 
 abbrev place_of : Asked → Place
 place_of (ChangeOf dir name) = (dir, name)

@@ -16,10 +16,10 @@ use Rattle.records.specs.declared.msg.Msg.TheVariants.{Request, Redirect, Answer
 use Rattle.node_core.specs.Nodes.{StoreV}
 use Rattle.node_core.specs.Rules.{Outcome, Silent, Looks, Repeats, Carries, outcome}
 use Rattle.node_core.specs.Serving.{serve, served_as}
-use Rattle.node_core.specs.Ranges as node
 use Rattle.node_core.specs.Ranges.{DirFits, RecordFits}
 use Rattle.client_core.specs.declared.client.Pending.{Pending}
-use Rattle.client_core.specs.Clients.{ClientV, dir_of, issued, issue_msg, SendsAgain}
+use Rattle.client_core.specs.Clients.{ClientV, issued, issue_msg, SendsAgain}
+use Rattle.mds_base.specs.Calls.{dir_of}
 use Rattle.client_core.specs.Taking.{take, take_at, answered_if, busy_if, held_if, redirected_if}
 use Rattle.client_core.specs.Taking as taking
 use Rattle.world.specs.declared.state.ServerState.{ServerState}
@@ -47,21 +47,6 @@ call_fits (Scan dir) e = cc
 call_fits (Grab dir name count) e = cc
 call_fits (Load dir rows) e = cc
 call_fits (Link dir name id) e = cc
-
--- the directory of a call, as servers read it
-pub same_dir : (call : Call) → dir_of call ≡ node.dir_of call
-same_dir (Create dir name) = refl
-same_dir (Mkdir dir name) = refl
-same_dir (Remove dir name) = refl
-same_dir (Lookup dir name) = refl
-same_dir (Setattr dir name mode size) = refl
-same_dir (Scan dir) = refl
-same_dir (Grab dir name count) = refl
-same_dir (Load dir rows) = refl
-same_dir (Link dir name id) = refl
-
-request_fits : (call : Call) → dir_of call < 2 ^ 48 → node.dir_of call < 2 ^ 48
-request_fits call fits = subst (λ dir. dir < 2 ^ 48) (same_dir call) fits
 
 -- Lists
 
@@ -91,7 +76,7 @@ outputs_fit store (Held client seq attempt until) now = each_none
 outputs_fit store (Transfer server dir part depth bits sessions top rows) now = each_none
 outputs_fit store (Installed server dir part child) now = each_none
 
-served_records : (store : StoreV) (ask : Ask) (o : Outcome) → node.dir_of ask.call < 2 ^ 48 → Each (served_as store ask o).records (λ k item. RecordFits item)
+served_records : (store : StoreV) (ask : Ask) (o : Outcome) → dir_of ask.call < 2 ^ 48 → Each (served_as store ask o).records (λ k item. RecordFits item)
 served_records store ask Silent fits = each_none
 served_records store ask (Looks reply) fits = each_none
 served_records store ask (Repeats said) fits = each_none
@@ -188,7 +173,7 @@ issue_fits (Some seat) call can = call_fits call (and_parts _ (is_call call) (an
 
 sends_fit : (client new : ClientV) (msg : Msg) (p : Option Pending) → SendsAgain client new msg p → PendingFits p → PendingFits new.pending × DirFits msg
 sends_fit client new msg None sends fits = absurd sends
-sends_fit client new msg (Some pending) sends fits = (subst (λ (x : ClientV). PendingFits x.pending) (sym sends.1) fits, subst DirFits (sym sends.0) (request_fits pending.call fits))
+sends_fit client new msg (Some pending) sends fits = (subst (λ (x : ClientV). PendingFits x.pending) (sym sends.1) fits, subst DirFits (sym sends.0) fits)
 
 module _ (i w : WorldV) (same : i ≡ w) (ranges : AreRanges i.setup i.now i.servers i.clients i.sent) where
   module _ (client : ℕ) (seat : ClientState) (read : seat ≡ get_or i.clients (client - 1) seat) where
@@ -206,7 +191,7 @@ module _ (i w : WorldV) (same : i ≡ w) (ranges : AreRanges i.setup i.now i.ser
         let fits : dir_of call' < 2 ^ 48 = subst (λ x. dir_of x < 2 ^ 48) (sym call_is) (issue_fits (seat_at w.clients client) call can) in
         subst (λ xs. AreRanges i.setup i.now i.servers (slice_set i.clients (client - 1) (record { client = new; quit = seat.quit })) xs) (sym sent_is)
         (with_msg (with_seat ranges (client - 1) (record { client = new; quit = seat.quit }) (issued_fits call call' can call_is new new_is)) msg
-        (subst DirFits (sym msg_is) (request_fits call' fits)))
+        (subst DirFits (sym msg_is) fits))
 
     pub resent_fits : can_resend (seat_at w.clients client) ≡ true → (new : ClientV) (msg : Msg) → SendsAgain seat.client new msg seat.client.pending → PendingFits new.pending
     resent_fits can new msg sends = (sends_fit seat.client new msg seat.client.pending sends (seat_fits can_resend refl can)).0
