@@ -1,6 +1,6 @@
 -- A file that a disk tells is told after its calls.
 use Rattle.std.proofs.Common.{◌≡◌, ℕ, List, Option, None, Some, subst, sym}
-use Rattle.gate_log.specs.Calls.{StaysTold}
+use Rattle.mds_out.specs.Disk.{StaysTold}
 
 pub told_here : (seen : Option (List ℕ)) → StaysTold seen seen
 told_here None = tt

@@ -4,7 +4,7 @@ use Rattle.gate_log.specs.declared.gate_log.LogFault.{LogFault}
 use Rattle.gate_log.specs.declared.gate_log.LogFault.TheVariants.{Device, Stopped, BadLog, OutOfMemory}
 use Rattle.gate_log.specs.Log.{gate_place, IsCutShort}
 use Rattle.gate_log.specs.LogState.{LogState, IsLogOf}
-use Rattle.mds_out.specs.Disk.{Image, Tells}
+use Rattle.mds_out.specs.Disk.{Image}
 use Rattle.mds_out.specs.Known.{OnTold}
 
 -- a refusal is the disk's: it failed or found no memory
@@ -22,10 +22,6 @@ IsOpenAnswer seen (Err Device) = ⊤
 IsOpenAnswer seen (Err Stopped) = ⊥
 IsOpenAnswer seen (Err (BadLog place)) = OnTold seen (λ bytes. IsCutShort bytes place)
 IsOpenAnswer seen (Err OutOfMemory) = ⊤
-
--- the disk tells a file exactly where it told it before
-abbrev pub StaysTold : Option (List ℕ) → Option (List ℕ) → Type 0
-StaysTold before now = Tells before now (λ old new. ⊤)
 
 -- an image while the file of a log is made: of that file at most one byte, or no more than it had
 pub record IsMaking (file : ℕ) (old : Image → Type 0) (image : Image) : Type 0 where

@@ -1,12 +1,12 @@
 //! The log.
 ghost use Rattle.std.specs.Prelude.{◌≡◌, ◌+◌, ◌^◌, ◌<◌, ◌≤◌, ◌++◌, ◌∷◌, [], List, ℕ, Ok, Err, Some, None, true, false, length, IfOk, IfErr, OnOk, OnErr, IsErrOf, IfSome, MatchOption};
-ghost use Rattle.gate_log.specs.Calls.{IsDiskAnswer, IsOpenAnswer, IsMaking, IsGateAt, IsSomeGate, IsReplayed, HasRead, ReadsOn, StaysTold};
+ghost use Rattle.gate_log.specs.Calls.{IsDiskAnswer, IsOpenAnswer, IsMaking, IsGateAt, IsSomeGate, IsReplayed, HasRead, ReadsOn};
 ghost use Rattle.gate_log.specs.Found.{IsFound};
 ghost use Rattle.gate_log.specs.Log.{IsBeforeOrAfter, HoldsOneLog, IsEitherLogOrShort, LengthsAddUp, OneMoreIsLonger, BodiesStand};
 ghost use Rattle.gate_log.specs.LogState.{open_log, IsReady, HasBodies, IsElsewhereOld, HasLogCause};
 ghost use Rattle.gate_log.specs.Refusals.{log_fault_of, IsReplayRefusal, IsEndReady, IsShortEnd};
 ghost use Rattle.gate_log.specs.declared.gate_log.LogFault.TheVariants.{OutOfMemory};
-ghost use Rattle.mds_out.specs.Disk.{LeavesOnly, IsUnchanged, IsElsewhereUnchanged, AreSame, HasDiskCause};
+ghost use Rattle.mds_out.specs.Disk.{LeavesOnly, IsUnchanged, IsElsewhereUnchanged, AreSame, HasDiskCause, StaysTold};
 ghost use Rattle.mds_out.specs.Known.{OnTold};
 
 use crate::Piece;

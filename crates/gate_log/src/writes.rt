@@ -1,8 +1,7 @@
 //! The writes of a log, each synced before the next.
 ghost use Rattle.std.specs.Prelude.{◌≡◌, ◌+◌, ◌-◌, ◌^◌, ◌<◌, ◌≤◌, ◌++◌, ◌∷◌, [], List, ℕ, max, false, length, OnOk, OnErr, IsErrOf, Some};
 ghost use Rattle.mds_out.specs.Known.{OnKnown, OnTold};
-ghost use Rattle.mds_out.specs.Disk.{Image, Tells, put, LeavesOnly, IsElsewhereUnchanged, HasDiskCause};
-ghost use Rattle.gate_log.specs.Calls.{StaysTold};
+ghost use Rattle.mds_out.specs.Disk.{Image, Tells, put, LeavesOnly, IsElsewhereUnchanged, HasDiskCause, StaysTold};
 ghost use Rattle.gate_log.specs.Log.{IsBeforeOrAfter};
 ghost use Rattle.gate_log.specs.LogState.{IsWrittenOver, IsElsewhereOld, IsReady, HasBodies, open_log};
 

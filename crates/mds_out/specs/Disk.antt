@@ -24,6 +24,10 @@ Tells None (Some now) change = ⊥
 Tells (Some before) None change = ⊥
 Tells (Some before) (Some now) change = change before now
 
+-- a file is told exactly where it was told before
+abbrev pub StaysTold : Option (List ℕ) → Option (List ℕ) → Type 0
+StaysTold before now = Tells before now (λ old new. ⊤)
+
 -- the bytes with these at this place in their stead, or behind them
 abbrev pub put : List ℕ → ℕ → List ℕ → List ℕ
 put old at bytes = take at old ++ bytes ++ drop (at + length bytes) old

@@ -5,12 +5,11 @@ use Rattle.mds_base.specs.RowKeys.{RowMap}
 use Rattle.mds_base.specs.declared.setup.Setup.{Setup}
 use Rattle.mds_base.specs.declared.store_fault.StoreFault.{StoreFault}
 use Rattle.mds_base.specs.declared.store_fault.StoreFault.TheVariants as faults
-use Rattle.mds_out.specs.Disk.{Image, Contents, Lengths, LeavesOnly, Shows}
+use Rattle.mds_out.specs.Disk.{Image, Contents, Lengths, LeavesOnly, Shows, StaysTold}
 use Rattle.mds_out.specs.Known.{OnKnown, OnTold}
 use Rattle.mds_out.proofs.Moments.{leaves_weaker, both}
 use Rattle.records.specs.declared.record.Record.TheVariants.{Opened}
 use Rattle.records.specs.Spelling.{record_spelling}
-use Rattle.gate_log.specs.Calls.{StaysTold}
 use Rattle.gate_log.specs.Log.{HoldsLog, IsBeforeOrAfter, log_length}
 use Rattle.gate_log.specs.LogState as logs
 use Rattle.gate_log.specs.LogState.{LogState, IsLogOf, IsReady, HasBodies}

@@ -10,13 +10,13 @@ use Rattle.records.specs.declared.record.Record.{Record}
 use Rattle.records.specs.Spelling.{IsHead, record_spelling}
 use Rattle.gate_log.specs.declared.gate_log.LogFault.{LogFault}
 use Rattle.gate_log.specs.declared.gate_log.LogFault.TheVariants as log_faults
-use Rattle.gate_log.specs.Calls.{StaysTold, IsOpenAnswer}
+use Rattle.gate_log.specs.Calls.{IsOpenAnswer}
 use Rattle.gate_log.specs.Log.{HoldsLog, IsCutShort, log_length}
 use Rattle.gate_log.specs.LogState.{LogState, IsLogOf, IsReady}
 use Rattle.gate_log.specs.LogState as logs
 use Rattle.gate_log.proofs.Frames.{longer}
 use Rattle.gate_log.proofs.Unique.{one_log, no_log}
-use Rattle.mds_out.specs.Disk.{Image, Contents, Shows}
+use Rattle.mds_out.specs.Disk.{Image, Contents, Shows, StaysTold}
 use Rattle.mds_out.specs.Known.{OnTold}
 use Rattle.node_core.specs.Nodes.{StoreV}
 use Rattle.node_core.specs.Serving.{replayed_all}

@@ -4,10 +4,9 @@ use Rattle.std.proofs.lemmas.Bool.{and_from, and_parts}
 use Rattle.std.proofs.lemmas.List.{append-nil}
 use Rattle.mds_base.specs.declared.setup.Setup.{Setup}
 use Rattle.records.specs.declared.record.Record.{Record}
-use Rattle.gate_log.specs.Calls.{StaysTold}
 use Rattle.gate_log.specs.Log.{IsBeforeOrAfter}
 use Rattle.gate_log.specs.LogState.{LogState, IsLogOf, IsReady, HasBodies}
-use Rattle.mds_out.specs.Disk.{Image, Contents, Lengths, LeavesOnly}
+use Rattle.mds_out.specs.Disk.{Image, Contents, Lengths, LeavesOnly, StaysTold}
 use Rattle.mds_out.specs.Known.{OnTold}
 use Rattle.mds_out.proofs.Moments.{leaves_weaker}
 use Rattle.node_core.specs.Nodes.{StoreV}

@@ -2,10 +2,9 @@ ghost use Rattle.std.specs.Prelude.{◌≡◌, ◌^◌, ◌<◌, ◌≤◌, ℕ,
 ghost use Rattle.mds_base.specs.declared.store_fault.StoreFault.TheVariants as StoreFault;
 ghost use Rattle.records.specs.declared.msg.Msg.{Msg};
 ghost use Rattle.records.specs.Spelling.{IsHead};
-ghost use Rattle.gate_log.specs.Calls.{StaysTold};
 ghost use Rattle.mds_out.specs.Fault.{Rose};
 ghost use Rattle.mds_out.specs.Known.{OnTold};
-ghost use Rattle.mds_out.specs.Disk.{LeavesOnly};
+ghost use Rattle.mds_out.specs.Disk.{LeavesOnly, StaysTold};
 ghost use Rattle.node_core.specs.Nodes.{StoreV, has_numbers};
 ghost use Rattle.node_core.specs.Serving.{serve};
 ghost use Rattle.node_store.specs.Parts.{IsNodeOf};

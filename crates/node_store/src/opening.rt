@@ -2,10 +2,9 @@
 ghost use Rattle.std.specs.Prelude.{◌≡◌, ◌≤◌, ◌<◌, ◌^◌, ℕ, List, ◌++◌, map, length, IfOk, IfErr, OnOk, IsErrOf};
 ghost use Rattle.mds_base.specs.declared.setup.Setup.{Setup};
 ghost use Rattle.mds_base.specs.declared.store_fault.StoreFault.{StoreFault};
-ghost use Rattle.mds_out.specs.Disk.{Image, LeavesOnly, IsUnchanged};
+ghost use Rattle.mds_out.specs.Disk.{Image, LeavesOnly, IsUnchanged, StaysTold};
 ghost use Rattle.mds_out.specs.Known.{OnKnown, OnTold};
 ghost use Rattle.records.specs.Spelling.{IsRecord, IsHead, record_spelling};
-ghost use Rattle.gate_log.specs.Calls.{StaysTold};
 ghost use Rattle.node_core.specs.Nodes.{StoreV};
 ghost use Rattle.node_store.specs.Opening.{StandAlike, IsAsBefore, IsOpenLog};
 ghost use Rattle.node_store.specs.Parts.{IsNodeOf};

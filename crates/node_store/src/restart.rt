@@ -1,9 +1,8 @@
 //! A server that is down is brought back from what its disk gives.
 ghost use Rattle.std.specs.Prelude.{◌≡◌, ◌^◌, ◌<◌, ◌≤◌, ℕ, [], None, Some, false, nat_lt, if◌then◌else◌, take, length, IfOk, IfErr, OnOk, OnErr, IsErrOf};
 ghost use Rattle.records.specs.Spelling.{IsHead};
-ghost use Rattle.gate_log.specs.Calls.{StaysTold};
 ghost use Rattle.gate_log.specs.LogState.{IsReady};
-ghost use Rattle.mds_out.specs.Disk.{Image, LeavesOnly, IsUnchanged, AreSame};
+ghost use Rattle.mds_out.specs.Disk.{Image, LeavesOnly, IsUnchanged, AreSame, StaysTold};
 ghost use Rattle.mds_out.specs.Known.{OnTold};
 ghost use Rattle.node_core.specs.Nodes.{StoreV};
 ghost use Rattle.node_core.specs.Serving.{restarted, replayed_all};

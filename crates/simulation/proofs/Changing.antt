@@ -6,8 +6,7 @@ use Rattle.std.proofs.lemmas.List.{append-nil}
 use Rattle.std.proofs.lemmas.Option.{get_or_from_slice_get, slice_get_read}
 use Rattle.mds_base.specs.declared.ask.Ask.{Ask}
 use Rattle.mds_base.specs.declared.setup.Setup.{Setup}
-use Rattle.gate_log.specs.Calls.{StaysTold}
-use Rattle.mds_out.specs.Disk.{Image, Contents, Tells}
+use Rattle.mds_out.specs.Disk.{Image, Contents, StaysTold}
 use Rattle.mds_out.specs.Fault.{Rose}
 use Rattle.records.specs.declared.msg.Msg.{Msg}
 use Rattle.records.specs.declared.msg.Msg.TheVariants.{Request, Redirect, Answer, Busy, Held, Transfer, Installed}

@@ -5,7 +5,7 @@ use Rattle.std.specs.List.{slice_get}
 use Rattle.std.specs.FinSet as set
 use Rattle.std.proofs.lemmas.List.{append-nil, length-append}
 use Rattle.mds_base.specs.declared.setup.Setup.{Setup}
-use Rattle.mds_out.specs.Disk.{Image, Contents}
+use Rattle.mds_out.specs.Disk.{Image, Contents, StaysTold}
 use Rattle.mds_out.specs.Fault.{Rose}
 use Rattle.records.specs.declared.handled.Handled.{Handled}
 use Rattle.records.specs.declared.msg.Msg.{Msg}
@@ -25,7 +25,6 @@ use Rattle.simulation.specs.Calls.{CanServe, Serves, RepliesTo, faults_of, fault
 use Rattle.simulation.specs.Entries.{changes_of, lookup_of, with_one, ended_by}
 use Rattle.simulation.specs.Ranges.{AreRanges}
 use Rattle.simulation.specs.Shows.{SimulationV, Happens, StaysNear, waiting_cmp, server_for, is_up, has_numbers_at}
-use Rattle.gate_log.specs.Calls.{StaysTold}
 use Rattle.simulation.proofs.Changing.{is_for, message_made, some_same, told_stays, up_store, others_stay, rose_at, faults_same}
 use Rattle.simulation.proofs.Serving.{IsToServe, IsServedStore, IsStoppedStore, served_by, stopped_by, serve_happens, stop_happens, replies_to}
 use Rattle.simulation.proofs.Showing.{happens_from, stays_near}

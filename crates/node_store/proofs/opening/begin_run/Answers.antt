@@ -1,6 +1,6 @@
 use Rattle.std.proofs.Common.{[], ◌∷◌, ℕ, ap, refl, subst}
+use Rattle.mds_out.specs.Disk.{StaysTold}
 use Rattle.records.specs.declared.record.Record.TheVariants.{Opened}
-use Rattle.gate_log.specs.Calls.{StaysTold}
 use Rattle.gate_log.specs.LogState.{LogState}
 use Rattle.node_core.specs.Nodes.{StoreV}
 use Rattle.node_store.proofs.Standing.{kept_after, either_after}

@@ -1,5 +1,5 @@
 use Rattle.std.proofs.Common.{subst, ap, ℕ}
-use Rattle.gate_log.specs.Calls.{StaysTold}
+use Rattle.mds_out.specs.Disk.{StaysTold}
 use Rattle.gate_log.specs.LogState.{LogState}
 use Rattle.node_store.proofs.Standing.{kept_after, either_after, doubt_after}
 use Rattle.node_store.proofs.serve.append.Goals as goal
