@@ -18,6 +18,3 @@ pub use fault::{BadBitmap, NoParent};
 pub use laws::laws_of_bitmaps;
 pub use span::Span;
 pub use words::WORDS;
-
-#[cfg(test)]
-mod tests;

@@ -8,8 +8,6 @@
 
 mod client;
 mod taken;
-#[cfg(test)]
-mod tests;
 
 pub use client::{Client, Pending};
 pub use taken::Taken;

@@ -14,6 +14,3 @@ mod writes;
 
 pub use gate_log::{GateLog, LogFault, log_places_law, one_log_law};
 pub use piece::Piece;
-
-#[cfg(test)]
-mod tests;

@@ -18,6 +18,3 @@ mod text;
 
 pub use interpreter::{Halt, Interpreter};
 pub use text::EffectLine;
-
-#[cfg(test)]
-mod tests;

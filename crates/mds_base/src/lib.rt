@@ -50,6 +50,3 @@ pub use walked::Walked;
 /// The radix: a directory has at most 2 ^ `RADIX` partitions. Definitions and laws take the radix as an argument
 /// (`docs/DECISIONS.md`); contracts cite them at this value.
 pub const RADIX: u32 = 10;
-
-#[cfg(test)]
-mod tests;

@@ -22,6 +22,3 @@ pub use run::Ended;
 pub use solo::giga_solo;
 pub use status::{Status, code};
 pub use words::{disks_of, laws_of_words, setup_of};
-
-#[cfg(test)]
-mod tests;

@@ -32,6 +32,3 @@ pub use memory::Memory;
 pub use outcome::Outcome;
 pub use sink::{Sink, write_whole};
 pub use source::{Failed, Source};
-
-#[cfg(test)]
-mod tests;

@@ -56,6 +56,3 @@ pub fn laws_of_scan_order()
     ensures total { IsTotalOrder scan_cmp }
     ensures exact { IsAntisymmetric scan_cmp }
 {}
-
-#[cfg(test)]
-mod tests;

@@ -14,8 +14,6 @@ mod node;
 mod part;
 mod plan;
 mod rows;
-#[cfg(test)]
-mod tests;
 mod told;
 mod undo;
 

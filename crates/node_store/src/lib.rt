@@ -17,6 +17,3 @@ mod serve;
 
 pub use laws::laws_of_disks;
 pub use node_store::{NodeStore, Refused};
-
-#[cfg(test)]
-mod tests;

@@ -28,24 +28,3 @@ pub fn zeroth(dir: u64, servers: u32) -> u32
 {
     server_of(dir, 0, servers)
 }
-
-#[cfg(test)]
-mod tests {
-    use super::*;
-
-    #[test]
-    fn partitions_go_round_the_servers(rt: HostRuntime) {
-        let rows = [
-            (1, 0, 2, 1),
-            (1, 1, 2, 0),
-            (1, 5, 16, 6),
-            (2, 1023, 3, 2),
-            ((1 << 48) - 1, 7, 128, 6),
-            (9, 4, 1, 0),
-        ];
-        for (dir, part, servers, server) in rows {
-            assert_eq!(rt; server_of(dir, part, servers), server, "{part} of {dir}");
-            assert_eq!(rt; zeroth(dir, servers), server_of(dir, 0, servers), "{dir}");
-        }
-    }
-}

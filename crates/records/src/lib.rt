@@ -20,6 +20,3 @@ pub use msg::{Msg, MsgList};
 pub use reading::{laws_of_spellings, read};
 pub use record::{Record, RecordList};
 pub use writing::write;
-
-#[cfg(test)]
-mod tests;

@@ -19,6 +19,3 @@ mod words;
 pub use fault::LineFault;
 pub use line::Line;
 pub use reading::{laws_of_lines, read_line};
-
-#[cfg(test)]
-mod tests;

@@ -7,7 +7,5 @@
 #![tactic(auto)]
 
 mod kept;
-#[cfg(test)]
-mod tests;
 
 pub use kept::{Judged, Kept, Sessions};

@@ -16,6 +16,3 @@ pub use made::{Kind, Made};
 pub use opening::NotOpened;
 pub use servers::{Restarted, Served};
 pub use simulation::Simulation;
-
-#[cfg(test)]
-mod tests;

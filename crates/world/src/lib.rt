@@ -12,8 +12,6 @@ mod event;
 mod law;
 mod running;
 mod state;
-#[cfg(test)]
-mod tests;
 mod world;
 
 pub use event::{Event, ServeEnd, StopCause};
