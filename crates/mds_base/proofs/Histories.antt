@@ -1,16 +1,16 @@
 -- The laws of plain rules and legal histories.
-use Rattle.std.proofs.Common.{◌≡◌, ◌∙◌, sym, ap, subst, refl, ℕ, ◌≤◌, List, [], ◌∷◌, ◌++◌, append_assoc, Bool, true, false, cond, nat_eq, is_some, is_some}
+use Rattle.std.proofs.Common.{◌≡◌, ◌∙◌, sym, ap, subst, refl, ℕ, ◌≤◌, List, [], ◌∷◌, ◌++◌, append_assoc, append-nil, Bool, true, false, cond, nat_eq, is_some, is_some}
 use Rattle.std.specs.List.{AllByRecursion, IsDistinct}
 use Rattle.std.specs.FinMap as map
 use Rattle.mds_base.specs.declared.row.Row.{Row}
 use Rattle.mds_base.specs.declared.entry.Entry.{Entry}
 use Rattle.mds_base.specs.declared.call.Call.{Call}
-use Rattle.mds_base.specs.declared.call.Call.TheVariants.{Create, Mkdir, Remove, Lookup, Setattr, Scan, Grab, Load, Link}
-use Rattle.mds_base.specs.declared.reply.Final.TheVariants.{Created, CreatedDir, Exists, Removed, Missing, IsDir, Set, Ids, Loaded, Stale}
+use Rattle.mds_base.specs.declared.call.Call.TheVariants.{Create, Mkdir, Remove, Lookup, Setattr, Scan, Grab, Load, Link, Seal, Unseal, Kill, Unlink}
+use Rattle.mds_base.specs.declared.reply.Final.TheVariants.{Created, CreatedDir, Exists, Removed, Missing, IsDir, Set, Ids, Loaded, Stale, Sealed, NotEmpty, Late, Opened, Killed}
 use Rattle.mds_base.specs.declared.reply.Reply.{Reply}
 use Rattle.mds_base.specs.declared.reply.Reply.TheVariants.{Said, Found, Listed}
 use Rattle.mds_base.specs.Entries.{Place, Entries}
-use Rattle.mds_base.specs.PlainRules.{after, with_rows, places_in, places_of, given_by}
+use Rattle.mds_base.specs.PlainRules.{Allows, after, with_rows, places_in, places_of, given_by}
 use Rattle.mds_base.specs.History.{IsLegal, IsLookup, Spares, EachAllowed, given, map_after}
 use Rattle.mds_base.proofs.Maps.{insert_apart}
 use Rattle.mds_base.proofs.Places.{edited_apart, places_total, exact_places}
@@ -20,6 +20,10 @@ use Rattle.mds_base.proofs.Places.{edited_apart, places_total, exact_places}
 all_front : {X : Type 0} (P : X → Type 0) (front rest : List X) → AllByRecursion P (front ++ rest) → AllByRecursion P front
 all_front P [] rest all = tt
 all_front P (x ∷ front) rest all = (all.0, all_front P front rest all.1)
+
+all_both : {X : Type 0} (P : X → Type 0) (front rest : List X) → AllByRecursion P front → AllByRecursion P rest → AllByRecursion P (front ++ rest)
+all_both P [] rest all more = more
+all_both P (x ∷ front) rest all more = (all.0, all_both P front rest all.1 more)
 
 all_rest : {X : Type 0} (P : X → Type 0) (front rest : List X) → AllByRecursion P (front ++ rest) → AllByRecursion P rest
 all_rest P [] rest all = all
@@ -44,6 +48,9 @@ leads_on start (entry ∷ front) rest = leads_on (after start entry.call entry.r
 pub given-append : (front rest : List Entry) → given (front ++ rest) ≡ given front ++ given rest
 given-append [] rest = refl
 given-append (entry ∷ front) rest = ap (λ ns. given_by entry.call entry.reply ++ ns) (given-append front rest) ∙ sym (append_assoc (given_by entry.call entry.reply) (given front) (given rest))
+
+pub given_more : (history : List Entry) (entry : Entry) → given (history ++ entry ∷ []) ≡ given history ++ given_by entry.call entry.reply
+given_more history entry = given-append history (entry ∷ []) ∙ ap (λ ns. given history ++ ns) (append-nil (given_by entry.call entry.reply))
 
 allowed_front : (start : Entries) (front rest : List Entry) → EachAllowed start (front ++ rest) → EachAllowed start front
 allowed_front start [] rest all = tt
@@ -81,7 +88,7 @@ rows_spare : (rows : List Row) (entries : Entries) (dir : ℕ) (place : Place) �
 rows_spare [] entries dir place spared = refl
 rows_spare (row ∷ rows) entries dir place spared = rows_spare rows _ dir place spared.1 ∙ row_spares entries dir row place spared.0 (is_some (map.get entries (dir, row.name)))
 
-load_spares : (entries : Entries) (dir : ℕ) (rows : List Row) (reply : Reply) (place : Place) → AllByRecursion (λ other. place ≡ other → ⊥) (places_in dir rows) → map.get (after entries (Load dir rows) reply) place ≡ map.get entries place
+load_spares : (entries : Entries) (dir : ℕ) (rows : List Row) (reply : Reply) (place : Place) → AllByRecursion (λ other. place ≡ other → ⊥) (places_of (Load dir rows) reply) → map.get (after entries (Load dir rows) reply) place ≡ map.get entries place
 load_spares entries dir rows (Said (Loaded number)) place spared = rows_spare rows entries dir place spared
 load_spares entries dir rows (Said Created) place spared = refl
 load_spares entries dir rows (Said (CreatedDir number)) place spared = refl
@@ -92,19 +99,28 @@ load_spares entries dir rows (Said IsDir) place spared = refl
 load_spares entries dir rows (Said Set) place spared = refl
 load_spares entries dir rows (Said (Ids number)) place spared = refl
 load_spares entries dir rows (Said Stale) place spared = refl
+load_spares entries dir rows (Said (Sealed depth epoch)) place spared = refl
+load_spares entries dir rows (Said NotEmpty) place spared = refl
+load_spares entries dir rows (Said Late) place spared = refl
+load_spares entries dir rows (Said Opened) place spared = refl
+load_spares entries dir rows (Said Killed) place spared = refl
 load_spares entries dir rows (Found attr until) place spared = refl
 load_spares entries dir rows (Listed listed) place spared = refl
 
-pub step_spares : (entries : Entries) (call : Call) (reply : Reply) (place : Place) → AllByRecursion (λ other. place ≡ other → ⊥) (places_of call) → map.get (after entries call reply) place ≡ map.get entries place
+pub step_spares : (entries : Entries) (call : Call) (reply : Reply) (place : Place) → AllByRecursion (λ other. place ≡ other → ⊥) (places_of call reply) → map.get (after entries call reply) place ≡ map.get entries place
 step_spares entries (Create dir name) reply place spared = edited_apart entries (dir, name) _ place spared.0
 step_spares entries (Mkdir dir name) reply place spared = edited_apart entries (dir, name) _ place spared.0
 step_spares entries (Link dir name id) reply place spared = edited_apart entries (dir, name) _ place spared.0
 step_spares entries (Remove dir name) reply place spared = edited_apart entries (dir, name) _ place spared.0
-step_spares entries (Setattr dir name mode size) reply place spared = edited_apart entries (dir, name) _ place spared.0
+step_spares entries (Setattr dir name mode size stamp) reply place spared = edited_apart entries (dir, name) _ place spared.0
+step_spares entries (Unlink dir name id) reply place spared = edited_apart entries (dir, name) _ place spared.0
 step_spares entries (Lookup dir name) reply place spared = refl
 step_spares entries (Grab dir name count) reply place spared = refl
-step_spares entries (Load dir rows) reply place spared = load_spares entries dir rows reply place spared
 step_spares entries (Scan dir) reply place spared = refl
+step_spares entries (Seal dir part epoch) reply place spared = refl
+step_spares entries (Unseal dir part epoch) reply place spared = refl
+step_spares entries (Kill dir epoch) reply place spared = refl
+step_spares entries (Load dir rows) reply place spared = load_spares entries dir rows reply place spared
 
 pub history_spares : (start : Entries) (history : List Entry) (place : Place) → Spares place history → map.get (map_after start history) place ≡ map.get start place
 history_spares start [] place spared = refl
@@ -136,3 +152,16 @@ dropped_legal start front rest entry looks legal = record {
   from_two = subst (AllByRecursion (λ n. 2 ≤ n)) (dropped_given front rest entry looks) legal.from_two;
   once = subst (IsDistinct nat_eq) (dropped_given front rest entry looks) legal.once;
 }
+
+-- One entry more
+
+pub one_more : (start : Entries) (history : List Entry) (entry : Entry) → IsLegal start history → Allows (map_after start history) entry.call entry.reply
+    → AllByRecursion (λ number. 2 ≤ number) (given_by entry.call entry.reply) → IsDistinct nat_eq (given history ++ given_by entry.call entry.reply) → IsLegal start (history ++ entry ∷ [])
+one_more start history entry legal allowed from_two once = record {
+  allowed = allowed_both start history (entry ∷ []) legal.allowed (allowed, tt);
+  from_two = subst (AllByRecursion (λ n. 2 ≤ n)) (sym (given_more history entry)) (all_both _ (given history) (given_by entry.call entry.reply) legal.from_two from_two);
+  once = subst (IsDistinct nat_eq) (sym (given_more history entry)) once;
+}
+
+pub more_legal : (start : Entries) (history : List Entry) (entry : Entry) → IsLegal start (history ++ entry ∷ []) → Allows (map_after start history) entry.call entry.reply
+more_legal start history entry legal = (allowed_rest start history (entry ∷ []) legal.allowed).0

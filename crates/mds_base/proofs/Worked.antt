@@ -82,13 +82,13 @@ abbrev notes : List ℕ
 notes = codes "notes.txt"
 
 abbrev set_notes : Attr
-set_notes = record { dir = 0; mode = 384; size = 1200 }
+set_notes = record { dir = 0; mode = 384; size = 1200; owner = 0; mtime = 0 }
 
 abbrev shared : List Entry
 shared =
     said 1 1 (Mkdir 1 home) (Said (CreatedDir 2))
     ∷ said 1 2 (Create 2 notes) (Said Created)
-    ∷ said 1 3 (Setattr 2 notes 384 1200) (Said Set)
+    ∷ said 1 3 (Setattr 2 notes 384 1200 None) (Said Set)
     ∷ said 2 1 (Lookup 1 home) (Found (new_directory 2) 0)
     ∷ said 2 2 (Lookup 2 notes) (Found set_notes 0)
     ∷ []

@@ -1,11 +1,13 @@
 -- The plain directory: a finite map from a directory and a name to the entry's attributes.
-use Rattle.std.specs.Prelude.{ℕ, ◌==◌, Bool, List, refl}
+use Rattle.std.specs.Prelude.{ℕ, ◌==◌, ◌||◌, not, Bool, List, Option, Some, None, refl}
 use Rattle.std.specs.declared.cmp.Ordering.{Ordering}
 use Rattle.std.specs.Ordering.{nat_cmp, ordering_then}
 use Rattle.std.specs.Cmp.Lexicographic.{slice_cmp}
 use Rattle.std.specs.Coded.{Coded, code_by, coded×, coded_list, coded_ℕ}
 use Rattle.std.specs.FinMap as map
+use Rattle.mds_base.specs.declared.limits.TheConstants.{FILE_MODE, DIRECTORY_MODE}
 use Rattle.mds_base.specs.declared.attr.Attr.{Attr}
+use Rattle.mds_base.specs.declared.attr.Stamp.{Stamp}
 
 -- where an entry stands: the number of its directory, and its name
 abbrev pub Place : Type 0
@@ -23,10 +25,19 @@ abbrev pub is_file : Attr → Bool
 is_file attr = attr.dir == 0
 
 abbrev pub new_file : Attr
-new_file = record { dir = 0; mode = 420; size = 0 }
+new_file = record { dir = 0; mode = FILE_MODE; size = 0; owner = 0; mtime = 0 }
 
 abbrev pub new_directory : ℕ → Attr
-new_directory number = record { dir = number; mode = 493; size = 0 }
+new_directory number = record { dir = number; mode = DIRECTORY_MODE; size = 0; owner = 0; mtime = 0 }
+
+-- an owner or a time of modification was set that is not 0
+abbrev pub is_stamped : Attr → Bool
+is_stamped attr = not (attr.owner == 0) || not (attr.mtime == 0)
+
+-- the attributes with another mode and size, and with the stamp's owner and time where there is a stamp
+abbrev pub reset_attr : Attr → ℕ → ℕ → Option Stamp → Attr
+reset_attr attr mode size None = record attr { mode = mode; size = size }
+reset_attr attr mode size (Some stamp) = record { dir = attr.dir; mode = mode; size = size; owner = stamp.owner; mtime = stamp.mtime }
 
 -- what becomes of one entry: it stays as it is, it gets attributes, or it goes
 pub data Edit : Type 0 where
@@ -44,4 +55,5 @@ abbrev pub coded_place : Coded Place
 coded_place = coded× coded_ℕ (coded_list coded_ℕ)
 
 abbrev pub coded_attr : Coded Attr
-coded_attr = code_by (ℕ × (ℕ × ℕ)) (coded× coded_ℕ (coded× coded_ℕ coded_ℕ)) (λ a. (a.dir, (a.mode, a.size))) (λ p. record { dir = p.0; mode = p.1.0; size = p.1.1 }) (λ _. refl)
+coded_attr = code_by (ℕ × (ℕ × (ℕ × (ℕ × ℕ)))) (coded× coded_ℕ (coded× coded_ℕ (coded× coded_ℕ (coded× coded_ℕ coded_ℕ))))
+    (λ a. (a.dir, (a.mode, (a.size, (a.owner, a.mtime))))) (λ p. record { dir = p.0; mode = p.1.0; size = p.1.1.0; owner = p.1.1.1.0; mtime = p.1.1.1.1 }) (λ _. refl)

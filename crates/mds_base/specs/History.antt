@@ -29,7 +29,7 @@ pub record IsLegal (start : Entries) (history : List Entry) : Type 0 where
 
 -- no entry speaks of the place
 abbrev pub Spares : Place → List Entry → Type 0
-Spares place = AllByRecursion (λ entry. AllByRecursion (λ other. place ≡ other → ⊥) (places_of entry.call))
+Spares place = AllByRecursion (λ entry. AllByRecursion (λ other. place ≡ other → ⊥) (places_of entry.call entry.reply))
 
 -- the entry is one of a lookup
 abbrev pub IsLookup : Entry → Type 0

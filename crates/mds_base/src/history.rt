@@ -1,11 +1,12 @@
-ghost use Rattle.std.specs.Prelude.{◌≡◌, List, ◌++◌, ◌∷◌};
+ghost use Rattle.std.specs.Prelude.{◌≡◌, ◌≤◌, List, ◌++◌, ◌∷◌, [], nat_eq};
+ghost use Rattle.std.specs.List.{AllByRecursion, IsDistinct};
 ghost use Rattle.std.specs.FinMap as map;
 ghost use Rattle.mds_base.specs.declared.entry.Entry.{Entry};
 ghost use Rattle.mds_base.specs.declared.call.Call.{Call};
 ghost use Rattle.mds_base.specs.declared.reply.Reply.{Reply};
 ghost use Rattle.mds_base.specs.Entries.{Place, Entries};
-ghost use Rattle.mds_base.specs.PlainRules.{PlainStep};
-ghost use Rattle.mds_base.specs.History.{IsLegal, IsLookup, Spares, map_after};
+ghost use Rattle.mds_base.specs.PlainRules.{PlainStep, Allows, given_by};
+ghost use Rattle.mds_base.specs.History.{IsLegal, IsLookup, Spares, map_after, given};
 
 /// The laws of plain rules and legal histories (`docs/DEFINITIONS.md`), for all maps and histories.
 pub fn laws_of_histories()
@@ -16,6 +17,11 @@ pub fn laws_of_histories()
     ensures front { (start : Entries) → (front rest : List Entry) → IsLegal start (front ++ rest) → IsLegal start front }
     ensures leads_on { (start : Entries) → (front rest : List Entry) → map_after start (front ++ rest) ≡ map_after (map_after start front) rest }
     ensures rest { (start : Entries) → (front rest : List Entry) → IsLegal start (front ++ rest) → IsLegal (map_after start front) rest }
+
+    // One entry more, which the rules allow at the end and which gives no number that was given.
+    ensures one_more { (start : Entries) → (history : List Entry) → (entry : Entry) → IsLegal start history → Allows (map_after start history) entry.call entry.reply
+        → AllByRecursion (λ number. 2 ≤ number) (given_by entry.call entry.reply) → IsDistinct nat_eq (given history ++ given_by entry.call entry.reply) → IsLegal start (history ++ entry ∷ []) }
+    ensures more_legal { (start : Entries) → (history : List Entry) → (entry : Entry) → IsLegal start (history ++ entry ∷ []) → Allows (map_after start history) entry.call entry.reply }
 
     // What no entry speaks of stays.
     ensures stays { (start : Entries) → (history : List Entry) → (place : Place) → Spares place history → map.get (map_after start history) place ≡ map.get start place }

@@ -27,6 +27,16 @@ pub enum Final {
     Loaded(u32),
     /// The load added nothing, since the directory's rows no longer lie in one partition.
     Stale,
+    /// The partition, of this depth, is sealed with this epoch.
+    Sealed { depth: u32, epoch: u64 },
+    /// The partition that was to be sealed has a row.
+    NotEmpty,
+    /// Another removal has this partition, or the partition is not kept.
+    Late,
+    /// The seal was taken off.
+    Opened,
+    /// The directory is dead.
+    Killed,
 }
 
 /// What answers a call.

@@ -1,4 +1,4 @@
-use Rattle.mds_base.proofs.Histories.{leads_on, legal_front, legal_rest, history_spares, dropped_legal, dropped_end}
+use Rattle.mds_base.proofs.Histories.{leads_on, legal_front, legal_rest, one_more, more_legal, history_spares, dropped_legal, dropped_end}
 use Rattle.mds_base.proofs.Places.{same_entries}
 use Rattle.mds_base.proofs.history.laws_of_histories.Goals as goal
 
@@ -22,3 +22,9 @@ returns-clause-dropped c = dropped_legal
 
 pub returns-clause-same_end : goal.returns-clause-same_end
 returns-clause-same_end c = dropped_end
+
+pub returns-clause-one_more : goal.returns-clause-one_more
+returns-clause-one_more c = one_more
+
+pub returns-clause-more_legal : goal.returns-clause-more_legal
+returns-clause-more_legal c = more_legal
