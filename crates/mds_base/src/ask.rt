@@ -6,10 +6,10 @@ use std::alloc::{AllocError, Global};
 /// A call as a client sends it.
 #[derive(Debug, Drop)]
 pub struct Ask {
-    /// The client, from 1.
-    pub client: u32,
     /// The number of the call among the client's calls, from 1.
     pub seq: u64,
+    /// The client, from 1.
+    pub client: u32,
     /// The number of this sending among the call's sendings, from 1.
     pub attempt: u32,
     /// The call.

@@ -1,3 +1,4 @@
+pub mod Messages
 pub mod Spelling
 pub mod Faults
 pub mod Reading

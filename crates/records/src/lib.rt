@@ -7,6 +7,7 @@
 //! begins another one.
 #![tactic(auto)]
 
+mod boxed;
 mod fault;
 mod handled;
 mod msg;
@@ -14,6 +15,7 @@ mod reading;
 mod record;
 mod writing;
 
+pub use boxed::{BoxedBitmap, BoxedCursor};
 pub use fault::RecordFault;
 pub use handled::Handled;
 pub use msg::{Msg, MsgList};

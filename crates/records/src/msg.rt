@@ -1,6 +1,9 @@
-ghost use Rattle.std.specs.Prelude.{◌≡◌, ◌++◌, ◌∷◌, [], IfOk, OnOk, OnErr};
+ghost use Rattle.std.specs.Prelude.{◌≡◌, ◌++◌, ◌∷◌, [], length, IfOk, OnOk, OnErr};
+ghost use Rattle.std.specs.List.{slice_get};
+ghost use Rattle.std.specs.Option.{option_copied};
+ghost use Rattle.records.specs.Messages.{server_of_msg, client_of_msg};
 
-use bitmap::Bitmap;
+use crate::boxed::{BoxedBitmap, BoxedCursor};
 use mds_base::{Ask, Cursor, Reply, RowList, SessionList};
 use std::alloc::{AllocError, Global};
 use std::marker::Model;
@@ -12,7 +15,7 @@ pub enum Msg {
     Request {
         server: u32,
         ask: Ask,
-        cursor: Option<Cursor>,
+        cursor: Option<BoxedCursor>,
     },
     /// The partition that the server locates lies elsewhere: the client is to merge the bitmap of the directory.
     Redirect {
@@ -20,7 +23,7 @@ pub enum Msg {
         seq: u64,
         attempt: u32,
         dir: u64,
-        bitmap: Bitmap,
+        bitmap: BoxedBitmap,
     },
     /// A server answers a call of a client.
     Answer {
@@ -44,14 +47,33 @@ pub enum Msg {
         attempt: u32,
         until: u64,
     },
-    /// The source of a split sends the moving half of a partition of this depth to the server of the child: the
-    /// bitmap of the directory, the sessions of the partition, the greatest of its floor and lease ends, and the rows.
+    /// A page of a scan: rows in the order of a scan, and where it goes on, or that it is over.
+    Page {
+        client: u32,
+        seq: u64,
+        attempt: u32,
+        rows: RowList,
+        next: Option<Cursor>,
+    },
+    /// The partition is sealed with this epoch, or dead: the client is to send again later.
+    Closed {
+        client: u32,
+        seq: u64,
+        attempt: u32,
+        part: u32,
+        epoch: u64,
+    },
+    /// The source of a split sends the moving half of a partition of this depth to the server of the child, in
+    /// `count` pieces of at most 64 rows, of which this is the one at `index`: the bitmap of the directory, the
+    /// sessions of the partition, the greatest of its floor and lease ends, and the rows.
     Transfer {
         server: u32,
         dir: u64,
         part: u32,
         depth: u32,
-        bitmap: Bitmap,
+        index: u32,
+        count: u32,
+        bitmap: BoxedBitmap,
         sessions: SessionList,
         top: u64,
         rows: RowList,
@@ -66,6 +88,40 @@ pub enum Msg {
 }
 
 impl Msg {
+    /// The server that the message is for, where it is for one.
+    pub fn server(&self) -> Option<u32>
+        ensures { result ≡ server_of_msg self.now }
+    {
+        match self {
+            Msg::Request { server, .. } => Some(*server),
+            Msg::Transfer { server, .. } => Some(*server),
+            Msg::Installed { server, .. } => Some(*server),
+            Msg::Redirect { .. } => None,
+            Msg::Answer { .. } => None,
+            Msg::Busy { .. } => None,
+            Msg::Held { .. } => None,
+            Msg::Page { .. } => None,
+            Msg::Closed { .. } => None,
+        }
+    }
+
+    /// The client that the message is for, where it is for one.
+    pub fn client(&self) -> Option<u32>
+        ensures { result ≡ client_of_msg self.now }
+    {
+        match self {
+            Msg::Redirect { client, .. } => Some(*client),
+            Msg::Answer { client, .. } => Some(*client),
+            Msg::Busy { client, .. } => Some(*client),
+            Msg::Held { client, .. } => Some(*client),
+            Msg::Page { client, .. } => Some(*client),
+            Msg::Closed { client, .. } => Some(*client),
+            Msg::Request { .. } => None,
+            Msg::Transfer { .. } => None,
+            Msg::Installed { .. } => None,
+        }
+    }
+
     /// A copy of the message; it is refused only where there is no memory for it.
     pub fn copy(&self, alloc: Global) -> Result<Msg, AllocError>
         ensures { IfOk result (λ copy. copy ≡ self.now) }
@@ -78,7 +134,7 @@ impl Msg {
             } => Msg::Request {
                 server: *server,
                 ask: ask.copy(alloc)?,
-                cursor: copy_of_cursor(alloc, cursor)?,
+                cursor: copy_of_boxed(alloc, cursor)?,
             },
             Msg::Redirect {
                 client,
@@ -91,7 +147,7 @@ impl Msg {
                 seq: *seq,
                 attempt: *attempt,
                 dir: *dir,
-                bitmap: *bitmap,
+                bitmap: bitmap.copy(alloc)?,
             },
             Msg::Answer {
                 client,
@@ -128,11 +184,39 @@ impl Msg {
                 attempt: *attempt,
                 until: *until,
             },
+            Msg::Page {
+                client,
+                seq,
+                attempt,
+                rows,
+                next,
+            } => Msg::Page {
+                client: *client,
+                seq: *seq,
+                attempt: *attempt,
+                rows: rows.copy(alloc)?,
+                next: copy_of_cursor(alloc, next)?,
+            },
+            Msg::Closed {
+                client,
+                seq,
+                attempt,
+                part,
+                epoch,
+            } => Msg::Closed {
+                client: *client,
+                seq: *seq,
+                attempt: *attempt,
+                part: *part,
+                epoch: *epoch,
+            },
             Msg::Transfer {
                 server,
                 dir,
                 part,
                 depth,
+                index,
+                count,
                 bitmap,
                 sessions,
                 top,
@@ -142,7 +226,9 @@ impl Msg {
                 dir: *dir,
                 part: *part,
                 depth: *depth,
-                bitmap: *bitmap,
+                index: *index,
+                count: *count,
+                bitmap: bitmap.copy(alloc)?,
                 sessions: sessions.copy(alloc)?,
                 top: *top,
                 rows: rows.copy(alloc)?,
@@ -173,6 +259,24 @@ fn copy_of_cursor(alloc: Global, cursor: &Option<Cursor>) -> Result<Option<Curso
         }
     }
 }
+
+fn copy_of_boxed(
+    alloc: Global,
+    cursor: &Option<BoxedCursor>,
+) -> Result<Option<BoxedCursor>, AllocError>
+    ensures { IfOk result (λ copy. copy ≡ cursor.now) }
+{
+    match cursor {
+        None => Ok(None),
+        Some(cursor) => {
+            let copy = cursor.copy(alloc)?;
+            Ok(Some(copy))
+        }
+    }
+}
+
+// A message stays small, whatever it brings.
+const _: () = prove!(std::mem::size_of::<Msg>() <= 120);
 
 /// Messages in their order.
 #[derive(Debug, Drop)]
@@ -220,6 +324,20 @@ impl MsgList {
     {
         self.messages.append(&mut other.messages)?;
         Ok(())
+    }
+
+    /// How many messages there are.
+    pub fn len(&self) -> usize
+        ensures { result ≡ length self.now }
+    {
+        self.messages.len()
+    }
+
+    /// The message at a place, counted from 0.
+    pub fn get(&self, place: usize) -> Option<&Msg>
+        ensures { option_copied result ≡ slice_get self.now place }
+    {
+        self.messages.get(place)
     }
 
     /// The messages, in their order.

@@ -1,6 +1,7 @@
-ghost use Rattle.std.specs.Prelude.{◌≡◌, ◌++◌, ◌∷◌, [], IfOk, OnOk, OnErr};
+ghost use Rattle.std.specs.Prelude.{◌≡◌, ◌++◌, ◌∷◌, [], length, IfOk, OnOk, OnErr};
 
-use mds_base::{Call, Final};
+use crate::boxed::BoxedBitmap;
+use mds_base::{Call, Final, RowList, SessionList};
 use std::alloc::{AllocError, Global};
 use std::marker::Model;
 
@@ -32,6 +33,39 @@ pub enum Record {
         call: Call,
         /// Its reply.
         said: Final,
+    },
+    /// The split of a partition began: the upper half of its range is frozen, and moves to its child.
+    Begin {
+        /// The number of the directory.
+        dir: u64,
+        /// The partition, below 2^depth.
+        part: u32,
+        /// Its depth before the split.
+        depth: u32,
+    },
+    /// The child of a split was made from what its source sent.
+    Install {
+        /// The number of the directory.
+        dir: u64,
+        /// The child, below 2^depth.
+        part: u32,
+        /// Its depth.
+        depth: u32,
+        /// The source's bitmap of the directory.
+        bitmap: BoxedBitmap,
+        /// The source's sessions, by rising clients.
+        sessions: SessionList,
+        /// The rows of the child, in the order of a scan.
+        rows: RowList,
+    },
+    /// The split of a partition ended: its moved rows are gone, and the child is known.
+    End {
+        /// The number of the directory.
+        dir: u64,
+        /// The partition.
+        part: u32,
+        /// Its depth before the split.
+        depth: u32,
     },
 }
 
@@ -66,6 +100,31 @@ impl Record {
                 call: call.copy(alloc)?,
                 said: *said,
             },
+            Record::Begin { dir, part, depth } => Record::Begin {
+                dir: *dir,
+                part: *part,
+                depth: *depth,
+            },
+            Record::Install {
+                dir,
+                part,
+                depth,
+                bitmap,
+                sessions,
+                rows,
+            } => Record::Install {
+                dir: *dir,
+                part: *part,
+                depth: *depth,
+                bitmap: bitmap.copy(alloc)?,
+                sessions: sessions.copy(alloc)?,
+                rows: rows.copy(alloc)?,
+            },
+            Record::End { dir, part, depth } => Record::End {
+                dir: *dir,
+                part: *part,
+                depth: *depth,
+            },
         })
     }
 }
@@ -79,8 +138,12 @@ pub struct RecordList {
 impl Model for RecordList {
     ghost use Rattle.std.specs.Prelude.{List};
     ghost use Rattle.records.specs.declared.record.Record.{Record};
+    ghost use Rattle.std.specs.Coded.{codes};
+    ghost use Rattle.bitmap.specs.Bits.{coded_bits};
 
     ghost Value = { List Record };
+
+    ghost coded = { Prim.hlevel (codes, coded_bits) };
 
     ghost view = { λ a. a.records.items };
 }
@@ -112,6 +175,13 @@ impl RecordList {
     {
         self.records.append(&mut other.records)?;
         Ok(())
+    }
+
+    /// How many records there are.
+    pub fn len(&self) -> usize
+        ensures { result ≡ length self.now }
+    {
+        self.records.len()
     }
 
     /// The records, in their order.
