@@ -1,4 +1,5 @@
 pub mod Name
+pub mod NameKept
 pub mod Calls
 pub mod Entries
 pub mod PlainRules

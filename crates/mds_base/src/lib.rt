@@ -36,7 +36,9 @@ pub use call::{Asked, Call, is_directory_number};
 pub use cursor::Cursor;
 pub use entry::Entry;
 pub use history::laws_of_histories;
-pub use limits::{DIRECTORIES, DIRECTORY_MODE, EPOCHS, FILE_MODE, GRAB_MOST, LOAD_MOST, MODE_MOST};
+pub use limits::{
+    DIRECTORIES, DIRECTORY_MODE, EPOCHS, FILE_MODE, GRAB_MOST, LOAD_MOST, MODE_MOST, SHORT_NAME,
+};
 pub use map_rows::MapRows;
 pub use name::{Name, NameFault};
 pub use place::PlaceList;

@@ -1,5 +1,8 @@
 //! The numbers that the service is bound by, each with its unit.
 
+/// A name of at most this many bytes takes no memory of its own.
+pub const SHORT_NAME: usize = 22;
+
 /// Directory numbers are below this, and at least 1.
 pub const DIRECTORIES: u64 = 1 << 48;
 

@@ -37,7 +37,7 @@ loop-key-preserved-in_ok-push c =
     let more = rest_more deref_pair c.loop-key.key-iterator c.next.new.self c.next.result (c.in-Some.key, c.in-Some.attr) c.in-Some.is c.next.ensures.steps in
     let room : length c.loop-key.page ≡ c.args.limit → ⊥ = λ full. c.if-rows-limit.false (ap length c.rows.ensures ∙ full) in
     let name : List ℕ → Row = λ bytes. record { name = bytes; attr = c.in-Some.attr.now } in
-    let pushed : c.push.new.self ≡ c.loop-key.page ++ row_of (c.in-Some.key.now, c.in-Some.attr.now) ∷ [] = c.in_ok-push.ensures.ok ∙ ap (λ (bytes : List ℕ). c.loop-key.page ++ name bytes ∷ []) c.in_ok-copy.ensures in
+    let pushed : c.push.new.self ≡ c.loop-key.page ++ row_of (c.in-Some.key.now, c.in-Some.attr.now) ∷ [] = c.in_ok-push.ensures.ok ∙ ap (λ (bytes : List ℕ). c.loop-key.page ++ name bytes ∷ []) c.in_ok-copy.ensures.value in
     rw pushed (walk_lists c.args.dir c.args.part c.args.from.now c.args.last c.args.limit c.loop-key.page c.loop-key.key-iterator _ _ c.next.new.self c.loop-key.invariant more room (sym c.is_beyond.ensures ∙ c.if-is_beyond.false) (sym c.is_past_cursor.ensures ∙ c.if-is_past_cursor.true))
 
 pub loop-key-preserved : goal.loop-key-preserved
