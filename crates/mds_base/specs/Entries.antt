@@ -1,5 +1,5 @@
 -- The plain directory: a finite map from a directory and a name to the entry's attributes.
-use Rattle.std.specs.Prelude.{ℕ, ◌==◌, ◌||◌, not, Bool, List, Option, Some, None, refl}
+use Rattle.std.specs.Prelude.{ℕ, ◌==◌, ◌||◌, not, Bool, List, Option, Some, None, if◌then◌else◌, refl}
 use Rattle.std.specs.declared.cmp.Ordering.{Ordering}
 use Rattle.std.specs.Ordering.{nat_cmp, ordering_then}
 use Rattle.std.specs.Cmp.Lexicographic.{slice_cmp}
@@ -33,6 +33,10 @@ new_directory number = record { dir = number; mode = DIRECTORY_MODE; size = 0; o
 -- an owner or a time of modification was set that is not 0
 abbrev pub is_stamped : Attr → Bool
 is_stamped attr = not (attr.owner == 0) || not (attr.mtime == 0)
+
+-- the owner and time of modification, where one of them was set that is not 0
+abbrev pub stamp_of : Attr → Option Stamp
+stamp_of attr = if is_stamped attr then Some (record { owner = attr.owner; mtime = attr.mtime }) else None
 
 -- the attributes with another mode and size, and with the stamp's owner and time where there is a stamp
 abbrev pub reset_attr : Attr → ℕ → ℕ → Option Stamp → Attr

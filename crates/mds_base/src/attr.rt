@@ -1,5 +1,5 @@
 ghost use Rattle.std.specs.Prelude.{◌≡◌, ◌↔◌, IsTrue};
-ghost use Rattle.mds_base.specs.Entries.{new_file, new_directory, reset_attr, is_file, is_stamped};
+ghost use Rattle.mds_base.specs.Entries.{new_file, new_directory, reset_attr, is_file, is_stamped, stamp_of};
 
 use crate::limits::{DIRECTORY_MODE, FILE_MODE};
 
@@ -66,6 +66,20 @@ impl Attr {
         ensures { result ≡ is_stamped self.now }
     {
         self.owner != 0 || self.mtime != 0
+    }
+
+    /// The owner and time of modification, where one of them was set that is not 0.
+    pub fn stamp(&self) -> Option<Stamp>
+        ensures { result ≡ stamp_of self.now }
+    {
+        if self.is_stamped() {
+            Some(Stamp {
+                owner: self.owner,
+                mtime: self.mtime,
+            })
+        } else {
+            None
+        }
     }
 
     /// The attributes with another mode and size, and with the stamp's owner and time where there is a stamp.
