@@ -12,32 +12,9 @@ use Rattle.mds_base.specs.declared.reply.Reply.TheVariants.{Said, Found, Listed}
 use Rattle.mds_base.specs.Entries.{Place, Entries}
 use Rattle.mds_base.specs.PlainRules.{Allows, after, with_rows, places_in, places_of, given_by}
 use Rattle.mds_base.specs.History.{IsLegal, IsLookup, Spares, EachAllowed, given, map_after}
+use Rattle.mds_base.proofs.Lists.{all_front, all_both, all_rest, distinct_front, distinct_rest}
 use Rattle.mds_base.proofs.Maps.{insert_apart}
 use Rattle.mds_base.proofs.Places.{edited_apart, places_total, exact_places}
-
--- Lists
-
-all_front : {X : Type 0} (P : X → Type 0) (front rest : List X) → AllByRecursion P (front ++ rest) → AllByRecursion P front
-all_front P [] rest all = tt
-all_front P (x ∷ front) rest all = (all.0, all_front P front rest all.1)
-
-all_both : {X : Type 0} (P : X → Type 0) (front rest : List X) → AllByRecursion P front → AllByRecursion P rest → AllByRecursion P (front ++ rest)
-all_both P [] rest all more = more
-all_both P (x ∷ front) rest all more = (all.0, all_both P front rest all.1 more)
-
-all_rest : {X : Type 0} (P : X → Type 0) (front rest : List X) → AllByRecursion P (front ++ rest) → AllByRecursion P rest
-all_rest P [] rest all = all
-all_rest P (x ∷ front) rest all = all_rest P front rest all.1
-
-distinct_front : (front rest : List ℕ) → IsDistinct nat_eq (front ++ rest) → IsDistinct nat_eq front
-unfolding IsDistinct
-distinct_front [] rest all = tt
-distinct_front (x ∷ front) rest all = (all_front _ front rest all.0, distinct_front front rest all.1)
-
-distinct_rest : (front rest : List ℕ) → IsDistinct nat_eq (front ++ rest) → IsDistinct nat_eq rest
-unfolding IsDistinct
-distinct_rest [] rest all = all
-distinct_rest (x ∷ front) rest all = distinct_rest front rest all.1
 
 -- Fronts
 

@@ -1,3 +1,8 @@
+pub mod Grow
+pub mod Filters
+pub mod Lists
+pub mod Results
+pub mod Finals
 pub mod Maps
 pub mod Places
 pub mod Histories

@@ -1,6 +1,8 @@
 pub mod Name
 pub mod NameKept
+pub mod Lists
 pub mod Calls
+pub mod Finals
 pub mod Entries
 pub mod PlainRules
 pub mod History
