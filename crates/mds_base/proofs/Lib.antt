@@ -3,6 +3,7 @@ pub mod Filters
 pub mod Lists
 pub mod Results
 pub mod Finals
+pub mod Setups
 pub mod Maps
 pub mod Places
 pub mod Histories

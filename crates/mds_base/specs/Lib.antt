@@ -4,6 +4,7 @@ pub mod Lists
 pub mod Calls
 pub mod Finals
 pub mod Entries
+pub mod Setups
 pub mod PlainRules
 pub mod History
 pub mod RowKeys

@@ -15,7 +15,7 @@ mod call;
 mod cursor;
 mod entry;
 mod history;
-mod limits;
+pub mod limits;
 mod map_rows;
 mod name;
 mod place;

@@ -1,14 +1,31 @@
+ghost use Rattle.std.specs.Prelude.{◌≡◌};
+ghost use Rattle.mds_base.specs.Setups.{is_setup};
+
+use crate::limits::{CLIENTS_MOST, LEASE_MOST, SERVERS_MOST, THRESHOLD_MOST};
+
 /// What all servers and clients of a run are started with.
 #[derive(Clone, Copy, Debug, PartialEq, Eq)]
 pub struct Setup {
     /// How many servers there are, from 1 to 32.
     pub servers: u32,
-    /// A partition with more rows than this is split.
+    /// A partition with more rows than this is split; from 1 to 8000.
     pub threshold: u32,
     /// How long a lease lasts, in moments, at most 1000000.
     pub lease: u64,
     /// How many clients there are, from 1 to 64.
     pub clients: u32,
+}
+
+impl Setup {
+    /// Whether a run may be started with this: each number is within its range.
+    pub fn is_fit(&self) -> bool
+        ensures { result ≡ is_setup self.now }
+    {
+        (1 <= self.servers && self.servers <= SERVERS_MOST)
+            && (1 <= self.clients && self.clients <= CLIENTS_MOST)
+            && (self.lease <= LEASE_MOST
+                && (1 <= self.threshold && self.threshold <= THRESHOLD_MOST))
+    }
 }
 
 /// A number of a run that has a limit (`docs/GUIDE.md`, "Limits").
