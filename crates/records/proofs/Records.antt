@@ -7,8 +7,9 @@ use Rattle.std.specs.Int.{w16, w32, w64, to_be_bytes}
 use Rattle.std.proofs.lemmas.Bool.{eqb-true}
 use Rattle.std.proofs.lemmas.List.{append-nil}
 use Rattle.mds_base.specs.declared.attr.Attr.{Attr}
+use Rattle.mds_base.specs.declared.attr.Stamp.{Stamp}
 use Rattle.mds_base.specs.declared.call.Call.{Call}
-use Rattle.mds_base.specs.declared.call.Call.TheVariants.{Create, Mkdir, Remove, Lookup, Setattr, Scan, Grab, Load, Link}
+use Rattle.mds_base.specs.declared.call.Call.TheVariants.{Create, Mkdir, Remove, Lookup, Setattr, Scan, Grab, Load, Link, Seal, Unseal, Kill, Unlink}
 use Rattle.mds_base.specs.declared.reply.Final.{Final}
 use Rattle.mds_base.specs.declared.reply.Final.TheVariants.{Created, CreatedDir, Exists, Removed, Missing, IsDir, Set}
 use Rattle.mds_base.specs.declared.reply.Reply.{Reply}
@@ -17,7 +18,7 @@ use Rattle.mds_base.specs.Name.{is_name}
 use Rattle.mds_base.specs.Entries.{Place, place_cmp, Entries, new_file, new_directory, is_file}
 use Rattle.mds_base.proofs.Places.{places_total}
 use Rattle.records.specs.declared.record.Record.{Record}
-use Rattle.records.specs.declared.record.Record.TheVariants.{Head, Opened, Served}
+use Rattle.records.specs.declared.record.Record.TheVariants.{Head, Opened, Served, Begin, Install, End}
 use Rattle.records.specs.Spelling.{IsDirectory, IsChange, MaySay, IsNumbered, IsHead, IsServed, name_spelling, call_spelling, tag_of, number_of, final_spelling, Spells}
 use Rattle.records.specs.Reading.{call_after, call_at, tags_of, final_of, final_at, head_at, served_at, record_at}
 use Rattle.records.proofs.Decoding.{Follows, Seq, Ends, follows_here, by_test, both_follow, same_follows}
@@ -38,20 +39,29 @@ any_of (k ∷ ks) b e = elim (k == b) as (λ t. (k == b) ≡ t → (t || is_amon
 -- ---- calls
 
 abbrev kinds : List ℕ
-kinds = 1 ∷ 2 ∷ 3 ∷ 4 ∷ []
+kinds = 1 ∷ 2 ∷ 3 ∷ 4 ∷ 8 ∷ []
 
 abbrev AttrText : ℕ → List ℕ → List ℕ → Call → Type 0
-AttrText dir name = Seq (NumberOf 2 0 4095) (λ mode. Seq (NumberOf 8 0 (2 ^ 64 - 1)) (λ size. Ends (Setattr dir name mode size)))
+AttrText dir name = Seq (NumberOf 2 0 4095) (λ mode. Seq (NumberOf 8 0 (2 ^ 64 - 1)) (λ size. Ends (Setattr dir name mode size None)))
+
+-- the stamp of an owner and a time
+abbrev stamp_of : ℕ → ℕ → Stamp
+stamp_of owner mtime = record { owner = owner; mtime = mtime }
+
+abbrev StampText : ℕ → List ℕ → List ℕ → Call → Type 0
+StampText dir name = Seq (NumberOf 2 0 4095) (λ mode. Seq (NumberOf 8 0 (2 ^ 64 - 1)) (λ size. Seq (NumberOf 4 0 (2 ^ 32 - 1)) (λ owner. Seq (NumberOf 8 0 (2 ^ 64 - 1)) (λ mtime. Ends (Setattr dir name mode size (Some (stamp_of owner mtime)))))))
 
 -- what follows the name in a call of this kind
 abbrev After : ℕ → ℕ → List ℕ → List ℕ → Call → Type 0
-After kind dir name text call = cond (kind == 1) (Ends (Create dir name) text call) (cond (kind == 2) (Ends (Mkdir dir name) text call) (cond (kind == 3) (Ends (Remove dir name) text call) (AttrText dir name text call)))
+After kind dir name text call = cond (kind == 1) (Ends (Create dir name) text call) (cond (kind == 2) (Ends (Mkdir dir name) text call) (cond (kind == 3) (Ends (Remove dir name) text call) (cond (kind == 4) (AttrText dir name text call) (StampText dir name text call))))
 
 after_reads : (kind dir : ℕ) (name : List ℕ) → Follows (After kind dir name) (call_after kind dir name)
 unfolding call_after
 after_reads kind dir name =
-    by_test (kind == 1) (λ _. follows_here (Create dir name)) (λ _. by_test (kind == 2) (λ _. follows_here (Mkdir dir name)) (λ _. by_test (kind == 3) (λ _. follows_here (Remove dir name)) (λ _.
-    both_follow (number_reads 0 4095 (omega arith) 2 (lit< tt)) (λ text mode s. both_follow (number_reads 0 (2 ^ 64 - 1) (omega arith) 8 (lit< tt)) (λ more size u. follows_here (Setattr dir name mode size))))))
+    by_test (kind == 1) (λ _. follows_here (Create dir name)) (λ _. by_test (kind == 2) (λ _. follows_here (Mkdir dir name)) (λ _. by_test (kind == 3) (λ _. follows_here (Remove dir name)) (λ _. by_test (kind == 4) (λ _.
+    both_follow (number_reads 0 4095 (omega arith) 2 (lit< tt)) (λ text mode s. both_follow (number_reads 0 (2 ^ 64 - 1) (omega arith) 8 (lit< tt)) (λ more size u. follows_here (Setattr dir name mode size None)))) (λ _.
+    both_follow (number_reads 0 4095 (omega arith) 2 (lit< tt)) (λ text mode s. both_follow (number_reads 0 (2 ^ 64 - 1) (omega arith) 8 (lit< tt)) (λ more size u.
+    both_follow (number_reads 0 (2 ^ 32 - 1) (omega arith) 4 (lit< tt)) (λ t owner v. both_follow (number_reads 0 (2 ^ 64 - 1) (omega arith) 8 (lit< tt)) (λ t mtime w. follows_here (Setattr dir name mode size (Some (stamp_of owner mtime)))))))))))
 
 -- a call that a log keeps, and its spelling
 pub record CallText (text : List ℕ) (call : Call) : Type 0 where
@@ -85,8 +95,21 @@ call_made kind dir name tail call (inr (inr (inr (inl four)))) is named after =
     let mode = s.first.high in
     let size = u.first.high in
     let end : tail ≡ to_be_bytes w16 s.value ++ to_be_bytes w64 u.value = s.parts ∙ ap (λ (t : List ℕ). t ++ s.back) s.first.text_is ∙ ap (λ (t : List ℕ). to_be_bytes w16 s.value ++ t) (u.parts ∙ ap (λ (t : List ℕ). t ++ u.back) u.first.text_is ∙ ap (λ (t : List ℕ). to_be_bytes w64 u.value ++ t) u.second.none ∙ append-nil (to_be_bytes w64 u.value)) in
-    (subst IsChange (sym u.second.is) (is, named, mode, omega arith), ap (λ (k : ℕ). whole k dir name tail) four ∙ ap (whole 4 dir name) end ∙ ap call_spelling (sym u.second.is))
-call_made kind dir name tail call (inr (inr (inr (inr none)))) is named after = absurd none
+    (subst IsChange (sym u.second.is) (is, named, mode, omega arith, tt), ap (λ (k : ℕ). whole k dir name tail) four ∙ ap (whole 4 dir name) end ∙ ap call_spelling (sym u.second.is))
+call_made kind dir name tail call (inr (inr (inr (inr (inl eight))))) is named after =
+    let s : StampText dir name tail call = subst (λ (k : ℕ). After k dir name tail call) eight after in
+    let u = s.second in
+    let v = u.second in
+    let w = v.second in
+    let mode = s.first.high in
+    let size = u.first.high in
+    let owner = v.first.high in
+    let mtime = w.first.high in
+    let stamp : List ℕ = to_be_bytes w32 v.value ++ to_be_bytes w64 w.value in
+    let stamped : u.back ≡ stamp = v.parts ∙ ap (λ (t : List ℕ). t ++ v.back) v.first.text_is ∙ ap (λ (t : List ℕ). to_be_bytes w32 v.value ++ t) (w.parts ∙ ap (λ (t : List ℕ). t ++ w.back) w.first.text_is ∙ ap (λ (t : List ℕ). to_be_bytes w64 w.value ++ t) w.second.none ∙ append-nil (to_be_bytes w64 w.value)) in
+    let end : tail ≡ to_be_bytes w16 s.value ++ (to_be_bytes w64 u.value ++ stamp) = s.parts ∙ ap (λ (t : List ℕ). t ++ s.back) s.first.text_is ∙ ap (λ (t : List ℕ). to_be_bytes w16 s.value ++ t) (u.parts ∙ ap (λ (t : List ℕ). t ++ u.back) u.first.text_is ∙ ap (λ (t : List ℕ). to_be_bytes w64 u.value ++ t) stamped) in
+    (subst IsChange (sym w.second.is) (is, named, mode, omega arith, (omega arith, omega arith)), ap (λ (k : ℕ). whole k dir name tail) eight ∙ ap (whole 8 dir name) end ∙ ap call_spelling (sym w.second.is))
+call_made kind dir name tail call (inr (inr (inr (inr (inr none))))) is named after = absurd none
 
 call_there : (text : List ℕ) (call : Call) → CallParts text call → CallText text call
 call_there text call s =
@@ -126,9 +149,9 @@ call_back : (text : List ℕ) (call : Call) → CallText text call → CallParts
 call_back text (Create dir name) s = subst (λ (t : List ℕ). CallParts t (Create dir name)) (unspelled 1 dir name text s.text_is) (parts_of 1 dir name [] (Create dir name) (lit< tt) refl s.change.0 s.change.1 (record { none = refl; is = refl }))
 call_back text (Mkdir dir name) s = subst (λ (t : List ℕ). CallParts t (Mkdir dir name)) (unspelled 2 dir name text s.text_is) (parts_of 2 dir name [] (Mkdir dir name) (lit< tt) refl s.change.0 s.change.1 (record { none = refl; is = refl }))
 call_back text (Remove dir name) s = subst (λ (t : List ℕ). CallParts t (Remove dir name)) (unspelled 3 dir name text s.text_is) (parts_of 3 dir name [] (Remove dir name) (lit< tt) refl s.change.0 s.change.1 (record { none = refl; is = refl }))
-call_back text (Setattr dir name mode size) s =
+call_back text (Setattr dir name mode size None) s =
     let fits = s.change.3 in
-    subst (λ (t : List ℕ). CallParts t (Setattr dir name mode size)) (sym s.text_is) (parts_of 4 dir name (to_be_bytes w16 mode ++ to_be_bytes w64 size) (Setattr dir name mode size) (lit< tt) refl s.change.0 s.change.1 (record {
+    subst (λ (t : List ℕ). CallParts t (Setattr dir name mode size None)) (sym s.text_is) (parts_of 4 dir name (to_be_bytes w16 mode ++ to_be_bytes w64 size) (Setattr dir name mode size None) (lit< tt) refl s.change.0 s.change.1 (record {
       front = to_be_bytes w16 mode;
       back = to_be_bytes w64 size;
       value = mode;
@@ -136,11 +159,42 @@ call_back text (Setattr dir name mode size) s =
       first = record { low = omega arith; high = s.change.2; text_is = refl };
       second = record { front = to_be_bytes w64 size; back = []; value = size; parts = sym (append-nil (to_be_bytes w64 size)); first = record { low = omega arith; high = omega arith; text_is = refl }; second = record { none = refl; is = refl } };
     }))
+call_back text (Setattr dir name mode size (Some stamp)) s =
+    let fits = s.change.3 in
+    let owner = s.change.4.0 in
+    let mtime = s.change.4.1 in
+    let stamped : List ℕ = to_be_bytes w32 stamp.owner ++ to_be_bytes w64 stamp.mtime in
+    subst (λ (t : List ℕ). CallParts t (Setattr dir name mode size (Some stamp))) (sym s.text_is) (parts_of 8 dir name (to_be_bytes w16 mode ++ (to_be_bytes w64 size ++ stamped)) (Setattr dir name mode size (Some stamp)) (lit< tt) refl s.change.0 s.change.1 (record {
+      front = to_be_bytes w16 mode;
+      back = to_be_bytes w64 size ++ stamped;
+      value = mode;
+      parts = refl;
+      first = record { low = omega arith; high = s.change.2; text_is = refl };
+      second = record {
+        front = to_be_bytes w64 size;
+        back = stamped;
+        value = size;
+        parts = refl;
+        first = record { low = omega arith; high = omega arith; text_is = refl };
+        second = record {
+          front = to_be_bytes w32 stamp.owner;
+          back = to_be_bytes w64 stamp.mtime;
+          value = stamp.owner;
+          parts = refl;
+          first = record { low = omega arith; high = omega arith; text_is = refl };
+          second = record { front = to_be_bytes w64 stamp.mtime; back = []; value = stamp.mtime; parts = sym (append-nil (to_be_bytes w64 stamp.mtime)); first = record { low = omega arith; high = omega arith; text_is = refl }; second = record { none = refl; is = refl } };
+        };
+      };
+    }))
 call_back text (Lookup dir name) s = absurd s.change
 call_back text (Scan dir) s = absurd s.change
 call_back text (Grab dir name count) s = absurd s.change
 call_back text (Load dir rows) s = absurd s.change
 call_back text (Link dir name id) s = absurd s.change
+call_back text (Seal dir part epoch) s = absurd s.change
+call_back text (Unseal dir part epoch) s = absurd s.change
+call_back text (Kill dir epoch) s = absurd s.change
+call_back text (Unlink dir name id) s = absurd s.change
 
 pub call_reads : Follows CallText call_at
 call_reads = same_follows call_there call_back call_parts
@@ -176,12 +230,16 @@ some_tag : (call : Call) → IsChange call → SomeTag call
 some_tag (Create dir name) change = record { tag = 1; byte = lit< tt; among = refl }
 some_tag (Mkdir dir name) change = record { tag = 2; byte = lit< tt; among = refl }
 some_tag (Remove dir name) change = record { tag = 4; byte = lit< tt; among = refl }
-some_tag (Setattr dir name mode size) change = record { tag = 5; byte = lit< tt; among = refl }
+some_tag (Setattr dir name mode size stamp) change = record { tag = 5; byte = lit< tt; among = refl }
 some_tag (Lookup dir name) change = absurd change
 some_tag (Scan dir) change = absurd change
 some_tag (Grab dir name count) change = absurd change
 some_tag (Load dir rows) change = absurd change
 some_tag (Link dir name id) change = absurd change
+some_tag (Seal dir part epoch) change = absurd change
+some_tag (Unseal dir part epoch) change = absurd change
+some_tag (Kill dir epoch) change = absurd change
+some_tag (Unlink dir name id) change = absurd change
 
 final_parts : (call : Call) → IsChange call → Follows (FinalParts call) (final_at call)
 unfolding final_at
@@ -239,14 +297,18 @@ final_made (Remove dir name) change tag number (inl is) low high = without (Remo
 final_made (Remove dir name) change tag number (inr (inl is)) low high = without (Remove dir name) 5 tag number is refl high (record { reply = (nothing, says_absent (dir, name) (Said Missing) (λ attr. Said Missing ≡ Said (if is_file attr then Removed else IsDir))); numbered = tt; tag_is = refl; number_is = refl })
 final_made (Remove dir name) change tag number (inr (inr (inl is))) low high = without (Remove dir name) 6 tag number is refl high (record { reply = (only (dir, name) (new_directory 1), says_there (dir, name) (new_directory 1) _ (λ attr. Said IsDir ≡ Said (if is_file attr then Removed else IsDir)) refl); numbered = tt; tag_is = refl; number_is = refl })
 final_made (Remove dir name) change tag number (inr (inr (inr none))) low high = absurd none
-final_made (Setattr dir name mode size) change tag number (inl is) low high = without (Setattr dir name mode size) 5 tag number is refl high (record { reply = (nothing, says_absent (dir, name) (Said Missing) (λ _. Said Missing ≡ Said Set)); numbered = tt; tag_is = refl; number_is = refl })
-final_made (Setattr dir name mode size) change tag number (inr (inl is)) low high = without (Setattr dir name mode size) 7 tag number is refl high (record { reply = (only (dir, name) new_file, says_there (dir, name) new_file _ (λ _. Said Set ≡ Said Set) refl); numbered = tt; tag_is = refl; number_is = refl })
-final_made (Setattr dir name mode size) change tag number (inr (inr none)) low high = absurd none
+final_made (Setattr dir name mode size stamp) change tag number (inl is) low high = without (Setattr dir name mode size stamp) 5 tag number is refl high (record { reply = (nothing, says_absent (dir, name) (Said Missing) (λ _. Said Missing ≡ Said Set)); numbered = tt; tag_is = refl; number_is = refl })
+final_made (Setattr dir name mode size stamp) change tag number (inr (inl is)) low high = without (Setattr dir name mode size stamp) 7 tag number is refl high (record { reply = (only (dir, name) new_file, says_there (dir, name) new_file _ (λ _. Said Set ≡ Said Set) refl); numbered = tt; tag_is = refl; number_is = refl })
+final_made (Setattr dir name mode size stamp) change tag number (inr (inr none)) low high = absurd none
 final_made (Lookup dir name) change tag number any low high = absurd change
 final_made (Scan dir) change tag number any low high = absurd change
 final_made (Grab dir name count) change tag number any low high = absurd change
 final_made (Load dir rows) change tag number any low high = absurd change
 final_made (Link dir name id) change tag number any low high = absurd change
+final_made (Seal dir part epoch) change tag number any low high = absurd change
+final_made (Unseal dir part epoch) change tag number any low high = absurd change
+final_made (Kill dir epoch) change tag number any low high = absurd change
+final_made (Unlink dir name id) change tag number any low high = absurd change
 
 -- a final with the tag and the number that it is read from
 record Tagged (call : Call) (said : Final) : Type 0 where
@@ -290,15 +352,19 @@ tagged (Remove dir name) said change may numbered = elim (one_of_two (map.get ma
   | inl e ↦ tagged_as (Remove dir name) Missing said e (record { byte = lit< tt; among = refl; low = lit≤ tt; high = lit≤ tt; back = refl })
   | inr e ↦ removed_or dir name said (is_file e.0) e.1
 ]
-tagged (Setattr dir name mode size) said change may numbered = elim (one_of_two (map.get may.0 (dir, name)) _ _ may.1) [
-  | inl e ↦ tagged_as (Setattr dir name mode size) Missing said e (record { byte = lit< tt; among = refl; low = lit≤ tt; high = lit≤ tt; back = refl })
-  | inr e ↦ tagged_as (Setattr dir name mode size) Set said e.1 (record { byte = lit< tt; among = refl; low = lit≤ tt; high = lit≤ tt; back = refl })
+tagged (Setattr dir name mode size stamp) said change may numbered = elim (one_of_two (map.get may.0 (dir, name)) _ _ may.1) [
+  | inl e ↦ tagged_as (Setattr dir name mode size stamp) Missing said e (record { byte = lit< tt; among = refl; low = lit≤ tt; high = lit≤ tt; back = refl })
+  | inr e ↦ tagged_as (Setattr dir name mode size stamp) Set said e.1 (record { byte = lit< tt; among = refl; low = lit≤ tt; high = lit≤ tt; back = refl })
 ]
 tagged (Lookup dir name) said change may numbered = absurd change
 tagged (Scan dir) said change may numbered = absurd change
 tagged (Grab dir name count) said change may numbered = absurd change
 tagged (Load dir rows) said change may numbered = absurd change
 tagged (Link dir name id) said change may numbered = absurd change
+tagged (Seal dir part epoch) said change may numbered = absurd change
+tagged (Unseal dir part epoch) said change may numbered = absurd change
+tagged (Kill dir epoch) said change may numbered = absurd change
+tagged (Unlink dir name id) said change may numbered = absurd change
 
 final_there : (call : Call) → IsChange call → (text : List ℕ) (said : Final) → FinalParts call text said → FinalText call text said
 final_there call change text said s =
@@ -544,6 +610,9 @@ record_back text (Served client seq part call said) s = record {
   first = record { text_is = refl; byte = lit< tt; passes = refl };
   second = record { client = client; seq = seq; part = part; call = call; said = said; item_is = refl; served = s.0; text_is = refl };
 }
+record_back text (Begin dir part depth) s = absurd s.0
+record_back text (Install dir part depth bitmap sessions rows) s = absurd s.0
+record_back text (End dir part depth) s = absurd s.0
 
 pub record_reads : Follows Spells record_at
 record_reads = same_follows record_there record_back record_parts

@@ -1,5 +1,5 @@
 -- Reading from left to right, on lists: what stands at the front and the bytes after it, or the first fault.
-use Rattle.std.specs.Prelude.{ℕ, zero, suc, ◌+◌, ◌-◌, ◌*◌, ◌/◌, ◌^◌, List, [], ◌∷◌, length, take, drop, Result, Ok, Err, nat_lt, nat_le, ◌==◌, ◌&&◌, Bool, if◌then◌else◌}
+use Rattle.std.specs.Prelude.{ℕ, zero, suc, ◌+◌, ◌-◌, ◌*◌, ◌/◌, ◌^◌, List, [], ◌∷◌, length, take, drop, Result, Ok, Err, nat_lt, nat_le, ◌==◌, ◌&&◌, Bool, if◌then◌else◌, None, Some}
 use Rattle.std.specs.List.{list_any}
 use Rattle.mds_base.specs.declared.call.Call.{Call}
 use Rattle.mds_base.specs.declared.call.Call.TheVariants.{Create, Mkdir, Remove, Setattr}
@@ -62,11 +62,12 @@ call_after kind dir name bytes =
     if kind == 1 then Ok (Create dir name, bytes)
     else if kind == 2 then Ok (Mkdir dir name, bytes)
     else if kind == 3 then Ok (Remove dir name, bytes)
-    else number_at 2 0 4095 bytes >>= λ mode. number_at 8 0 (2 ^ 64 - 1) mode.1 >>= λ size. Ok (Setattr dir name mode.0 size.0, size.1)
+    else if kind == 4 then (number_at 2 0 4095 bytes >>= λ mode. number_at 8 0 (2 ^ 64 - 1) mode.1 >>= λ size. Ok (Setattr dir name mode.0 size.0 None, size.1))
+    else number_at 2 0 4095 bytes >>= λ mode. number_at 8 0 (2 ^ 64 - 1) mode.1 >>= λ size. number_at 4 0 (2 ^ 32 - 1) size.1 >>= λ owner. number_at 8 0 (2 ^ 64 - 1) owner.1 >>= λ mtime. Ok (Setattr dir name mode.0 size.0 (Some (record { owner = owner.0; mtime = mtime.0 })), mtime.1)
 
 unfoldable pub call_at : List ℕ → Result (Call × List ℕ) Fault
 call_at bytes = do
-  kind ← byte_among (1 ∷ 2 ∷ 3 ∷ 4 ∷ []) bytes
+  kind ← byte_among (1 ∷ 2 ∷ 3 ∷ 4 ∷ 8 ∷ []) bytes
   dir ← number_at 8 1 (2 ^ 48 - 1) kind.1
   name ← name_at dir.1
   call_after kind.0 dir.0 name.0 name.1
@@ -76,7 +77,7 @@ abbrev pub tags_of : Call → List ℕ
 tags_of (Create dir name) = 1 ∷ 3 ∷ []
 tags_of (Mkdir dir name) = 2 ∷ 3 ∷ []
 tags_of (Remove dir name) = 4 ∷ 5 ∷ 6 ∷ []
-tags_of (Setattr dir name mode size) = 5 ∷ 7 ∷ []
+tags_of (Setattr dir name mode size stamp) = 5 ∷ 7 ∷ []
 tags_of call = []
 
 abbrev pub final_of : ℕ → ℕ → Final

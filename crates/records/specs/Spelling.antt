@@ -1,10 +1,11 @@
 -- Records as bytes: which records have a spelling, and the one spelling of each. It knows no reader and no writer.
-use Rattle.std.specs.Prelude.{◌≡◌, ℕ, ◌+◌, ◌<◌, ◌≤◌, ◌^◌, List, [], ◌∷◌, ◌++◌, length, take, Result, Err, IsTrue}
+use Rattle.std.specs.Prelude.{◌≡◌, ℕ, ◌+◌, ◌<◌, ◌≤◌, ◌^◌, ◌*◌, List, [], ◌∷◌, ◌++◌, length, take, Option, Some, None, Result, Err, IsTrue}
 use Rattle.std.specs.Int.{w16, w32, w64, to_be_bytes}
+use Rattle.mds_base.specs.declared.attr.Stamp.{Stamp}
 use Rattle.mds_base.specs.declared.call.Call.{Call}
-use Rattle.mds_base.specs.declared.call.Call.TheVariants.{Create, Mkdir, Remove, Lookup, Setattr, Scan, Grab, Load, Link}
+use Rattle.mds_base.specs.declared.call.Call.TheVariants.{Create, Mkdir, Remove, Lookup, Setattr, Scan, Grab, Load, Link, Seal, Unseal, Kill, Unlink}
 use Rattle.mds_base.specs.declared.reply.Final.{Final}
-use Rattle.mds_base.specs.declared.reply.Final.TheVariants.{Created, CreatedDir, Exists, Removed, Missing, IsDir, Set, Ids, Loaded, Stale}
+use Rattle.mds_base.specs.declared.reply.Final.TheVariants.{Created, CreatedDir, Exists, Removed, Missing, IsDir, Set, Ids, Loaded, Stale, Sealed, NotEmpty, Late, Opened, Killed}
 use Rattle.mds_base.specs.declared.reply.Reply.TheVariants.{Said}
 use Rattle.mds_base.specs.Name.{is_name}
 use Rattle.mds_base.specs.Entries.{Entries}
@@ -12,7 +13,8 @@ use Rattle.mds_base.specs.PlainRules.{Allows}
 use Rattle.records.specs.declared.fault.RecordFault.{RecordFault}
 use Rattle.records.specs.declared.fault.RecordFault.TheVariants.{OutOfMemory}
 use Rattle.records.specs.declared.record.Record.{Record}
-use Rattle.records.specs.declared.record.Record.TheVariants.{Head, Opened, Served}
+use Rattle.records.specs.declared.record.Record.TheVariants as records
+use Rattle.records.specs.declared.record.Record.TheVariants.{Head, Served, Begin, Install, End}
 
 -- ---- what has a spelling
 
@@ -20,17 +22,26 @@ use Rattle.records.specs.declared.record.Record.TheVariants.{Head, Opened, Serve
 abbrev pub IsDirectory : ℕ → Type 0
 IsDirectory dir = (1 ≤ dir) × (dir < 2 ^ 48)
 
+-- the owner and the time of a stamp are within their widths
+abbrev pub IsStamp : Option Stamp → Type 0
+IsStamp None = Unit {0}
+IsStamp (Some stamp) = (stamp.owner < 2 ^ 32) × (stamp.mtime < 2 ^ 64)
+
 -- a call that a log keeps
 abbrev pub IsChange : Call → Type 0
 IsChange (Create dir name) = IsDirectory dir × IsTrue (is_name name)
 IsChange (Mkdir dir name) = IsDirectory dir × IsTrue (is_name name)
 IsChange (Remove dir name) = IsDirectory dir × IsTrue (is_name name)
-IsChange (Setattr dir name mode size) = IsDirectory dir × IsTrue (is_name name) × (mode ≤ 4095) × (size < 2 ^ 64)
+IsChange (Setattr dir name mode size stamp) = IsDirectory dir × IsTrue (is_name name) × (mode ≤ 4095) × (size < 2 ^ 64) × IsStamp stamp
 IsChange (Lookup dir name) = ⊥
 IsChange (Scan dir) = ⊥
 IsChange (Grab dir name count) = ⊥
 IsChange (Load dir rows) = ⊥
 IsChange (Link dir name id) = ⊥
+IsChange (Seal dir part epoch) = ⊥
+IsChange (Unseal dir part epoch) = ⊥
+IsChange (Kill dir epoch) = ⊥
+IsChange (Unlink dir name id) = ⊥
 
 -- a final that the plain rules allow for the call on some map
 abbrev pub MaySay : Call → Final → Type 0
@@ -41,6 +52,7 @@ abbrev pub IsNumbered : Final → Type 0
 IsNumbered (CreatedDir number) = IsDirectory number
 IsNumbered (Ids first) = (2 ≤ first) × (first ≤ 2 ^ 45)
 IsNumbered (Loaded count) = count ≤ 4096
+IsNumbered (Sealed depth epoch) = (depth ≤ 14) × (epoch < 2 ^ 48)
 IsNumbered said = Unit {0}
 
 -- the head of a log of the first format
@@ -66,8 +78,11 @@ pub record IsServed (client seq part : ℕ) (call : Call) (said : Final) : Type 
 -- a record that has a spelling
 abbrev pub IsRecord : Record → Type 0
 IsRecord (Head format servers server threshold) = IsHead format servers server threshold
-IsRecord Opened = Unit {0}
+IsRecord records.Opened = Unit {0}
 IsRecord (Served client seq part call said) = IsServed client seq part call said
+IsRecord (Begin dir part depth) = ⊥
+IsRecord (Install dir part depth bitmap sessions rows) = ⊥
+IsRecord (End dir part depth) = ⊥
 
 -- ---- the spellings
 
@@ -80,7 +95,8 @@ abbrev pub call_spelling : Call → List ℕ
 call_spelling (Create dir name) = 1 ∷ (to_be_bytes w64 dir ++ name_spelling name)
 call_spelling (Mkdir dir name) = 2 ∷ (to_be_bytes w64 dir ++ name_spelling name)
 call_spelling (Remove dir name) = 3 ∷ (to_be_bytes w64 dir ++ name_spelling name)
-call_spelling (Setattr dir name mode size) = 4 ∷ (to_be_bytes w64 dir ++ (name_spelling name ++ (to_be_bytes w16 mode ++ to_be_bytes w64 size)))
+call_spelling (Setattr dir name mode size None) = 4 ∷ (to_be_bytes w64 dir ++ (name_spelling name ++ (to_be_bytes w16 mode ++ to_be_bytes w64 size)))
+call_spelling (Setattr dir name mode size (Some stamp)) = 8 ∷ (to_be_bytes w64 dir ++ (name_spelling name ++ (to_be_bytes w16 mode ++ (to_be_bytes w64 size ++ (to_be_bytes w32 stamp.owner ++ to_be_bytes w64 stamp.mtime)))))
 call_spelling call = []
 
 abbrev pub tag_of : Final → ℕ
@@ -94,12 +110,18 @@ tag_of Set = 7
 tag_of (Ids first) = 8
 tag_of (Loaded count) = 9
 tag_of Stale = 10
+tag_of (Sealed depth epoch) = 11
+tag_of NotEmpty = 12
+tag_of Late = 13
+tag_of Opened = 14
+tag_of Killed = 15
 
 -- the number of a final, 0 where it has none
 abbrev pub number_of : Final → ℕ
 number_of (CreatedDir number) = number
 number_of (Ids first) = first
 number_of (Loaded count) = count
+number_of (Sealed depth epoch) = 16 * epoch + depth
 number_of said = 0
 
 abbrev pub final_spelling : Final → List ℕ
@@ -108,8 +130,9 @@ final_spelling said = tag_of said ∷ to_be_bytes w64 (number_of said)
 -- the kind of a record, and its fields
 abbrev pub record_spelling : Record → List ℕ
 record_spelling (Head format servers server threshold) = 1 ∷ format ∷ (to_be_bytes w32 servers ++ (to_be_bytes w32 server ++ to_be_bytes w32 threshold))
-record_spelling Opened = 2 ∷ []
+record_spelling records.Opened = 2 ∷ []
 record_spelling (Served client seq part call said) = 3 ∷ (to_be_bytes w32 client ++ (to_be_bytes w64 seq ++ (to_be_bytes w32 part ++ (call_spelling call ++ final_spelling said))))
+record_spelling item = []
 
 -- these bytes spell the record
 abbrev pub Spells : List ℕ → Record → Type 0

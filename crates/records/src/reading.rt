@@ -6,7 +6,7 @@ ghost use Rattle.records.specs.Reading.{byte_among, number_at, from_foreign, tex
 
 use crate::fault::{Fault, RecordFault, Stop};
 use crate::record::Record;
-use mds_base::{Call, Final, Name, NameFault};
+use mds_base::{Call, Final, Name, NameFault, Stamp};
 use std::alloc::Global;
 
 /// Directory numbers are below this.
@@ -94,7 +94,7 @@ fn call_of(kind: u8, dir: u64, name: Name, bytes: &[u8]) -> Result<(Call, &[u8])
         1 => Ok((Call::Create { dir, name }, bytes)),
         2 => Ok((Call::Mkdir { dir, name }, bytes)),
         3 => Ok((Call::Remove { dir, name }, bytes)),
-        _ => {
+        4 => {
             let (mode, rest) = number(bytes, 2, 0, 4095)?;
             let (size, rest) = number(rest, 8, 0, u64::MAX)?;
             Ok((
@@ -103,6 +103,27 @@ fn call_of(kind: u8, dir: u64, name: Name, bytes: &[u8]) -> Result<(Call, &[u8])
                     name,
                     mode: mode as u32,
                     size,
+                    stamp: None,
+                },
+                rest,
+            ))
+        }
+        _ => {
+            let (mode, rest) = number(bytes, 2, 0, 4095)?;
+            let (size, rest) = number(rest, 8, 0, u64::MAX)?;
+            let (owner, rest) = number(rest, 4, 0, u32::MAX as u64)?;
+            let (mtime, rest) = number(rest, 8, 0, u64::MAX)?;
+            let stamp = Stamp {
+                owner: owner as u32,
+                mtime,
+            };
+            Ok((
+                Call::Setattr {
+                    dir,
+                    name,
+                    mode: mode as u32,
+                    size,
+                    stamp: Some(stamp),
                 },
                 rest,
             ))
@@ -114,7 +135,7 @@ fn call_of(kind: u8, dir: u64, name: Name, bytes: &[u8]) -> Result<(Call, &[u8])
 fn call(alloc: Global, bytes: &[u8]) -> Result<(Call, &[u8]), Stop>
     ensures { Gives (λ x. (x.0, x.1.now)) result (call_at bytes.now) }
 {
-    let (kind, rest) = byte(bytes, &[1, 2, 3, 4])?;
+    let (kind, rest) = byte(bytes, &[1, 2, 3, 4, 8])?;
     let (dir, rest) = number(rest, 8, 1, DIRECTORIES - 1)?;
     let (name, rest) = name(alloc, rest)?;
     call_of(kind, dir, name, rest)

@@ -1,10 +1,11 @@
 ghost use Rattle.std.specs.Prelude.{◌≡◌, ◌++◌, ◌∷◌, OnOk, OnErr};
 ghost use Rattle.std.specs.Int.{w16, w32, w64, to_be_bytes};
-ghost use Rattle.records.specs.Spelling.{IsChange, IsRecord, name_spelling, call_spelling, tag_of, number_of, final_spelling, record_spelling};
+ghost use Rattle.mds_base.specs.declared.call.Call.TheVariants.{Setattr};
+ghost use Rattle.records.specs.Spelling.{IsChange, IsNumbered, IsRecord, name_spelling, call_spelling, tag_of, number_of, final_spelling, record_spelling};
 
 use crate::record::Record;
 use byteorder::{BigEndian, ByteOrder};
-use mds_base::{Call, Final, Name};
+use mds_base::{Call, Final, Name, Stamp};
 use std::alloc::{AllocError, Global};
 
 fn put_u16(out: &mut Vec<u8>, number: u16) -> Result<(), AllocError>
@@ -48,6 +49,40 @@ fn put_start(out: &mut Vec<u8>, kind: u8, dir: u64, name: &Name) -> Result<(), A
     put_name(out, name)
 }
 
+// A call that sets attributes.
+fn put_set(
+    out: &mut Vec<u8>,
+    dir: u64,
+    name: &Name,
+    mode: u16,
+    size: u64,
+    stamp: &Option<Stamp>,
+) -> Result<(), AllocError>
+    ensures { OnOk result (out.new.items ≡ out.old.items ++ call_spelling (Setattr dir name.now mode size stamp.now)) }
+{
+    match stamp {
+        None => {
+            put_start(out, 4, dir, name)?;
+            put_u16(out, mode)?;
+            put_u64(out, size)
+        }
+        Some(stamp) => {
+            put_start(out, 8, dir, name)?;
+            put_u16(out, mode)?;
+            put_stamped(out, size, stamp.owner, stamp.mtime)
+        }
+    }
+}
+
+// The size of a call that sets a stamp, and the stamp's owner and time.
+fn put_stamped(out: &mut Vec<u8>, size: u64, owner: u32, mtime: u64) -> Result<(), AllocError>
+    ensures { OnOk result (out.new.items ≡ out.old.items ++ (to_be_bytes w64 size ++ (to_be_bytes w32 owner ++ to_be_bytes w64 mtime))) }
+{
+    put_u64(out, size)?;
+    put_u32(out, owner)?;
+    put_u64(out, mtime)
+}
+
 fn put_call(out: &mut Vec<u8>, call: &Call) -> Result<(), AllocError>
     requires { IsChange call.now }
     ensures { OnOk result (out.new.items ≡ out.old.items ++ call_spelling call.now) }
@@ -61,11 +96,8 @@ fn put_call(out: &mut Vec<u8>, call: &Call) -> Result<(), AllocError>
             name,
             mode,
             size,
-        } => {
-            put_start(out, 4, *dir, name)?;
-            put_u16(out, *mode as u16)?;
-            put_u64(out, *size)
-        }
+            stamp,
+        } => put_set(out, *dir, name, *mode as u16, *size, stamp),
         _ => Ok(()),
     }
 }
@@ -84,21 +116,29 @@ fn tag(said: &Final) -> u8
         Final::Ids(_) => 8,
         Final::Loaded(_) => 9,
         Final::Stale => 10,
+        Final::Sealed { .. } => 11,
+        Final::NotEmpty => 12,
+        Final::Late => 13,
+        Final::Opened => 14,
+        Final::Killed => 15,
     }
 }
 
 fn number(said: &Final) -> u64
+    requires { IsNumbered said.now }
     ensures { result ≡ number_of said.now }
 {
     match said {
         Final::CreatedDir(number) => *number,
         Final::Ids(first) => *first,
         Final::Loaded(count) => *count as u64,
+        Final::Sealed { depth, epoch } => 16 * *epoch + *depth as u64,
         _ => 0,
     }
 }
 
 fn put_final(out: &mut Vec<u8>, said: &Final) -> Result<(), AllocError>
+    requires { IsNumbered said.now }
     ensures { OnOk result (out.new.items ≡ out.old.items ++ final_spelling said.now) }
 {
     out.push(tag(said))?;
@@ -116,7 +156,7 @@ fn put_numbers(out: &mut Vec<u8>, client: u32, seq: u64, part: u32) -> Result<()
 
 // A call and its reply.
 fn put_answered(out: &mut Vec<u8>, call: &Call, said: &Final) -> Result<(), AllocError>
-    requires { IsChange call.now }
+    requires { IsChange call.now × IsNumbered said.now }
     ensures { OnOk result (out.new.items ≡ out.old.items ++ (call_spelling call.now ++ final_spelling said.now)) }
 {
     put_call(out, call)?;
@@ -155,6 +195,7 @@ fn put_record(out: &mut Vec<u8>, item: &Record) -> Result<(), AllocError>
             put_numbers(out, *client, *seq, *part)?;
             put_answered(out, call, said)
         }
+        _ => Ok(()),
     }
 }
 
