@@ -1,12 +1,15 @@
 -- Places are in a total order that tells them apart; what an edit changes is its own place.
-use Rattle.std.proofs.Common.{◌≡◌, refl}
-use Rattle.std.specs.Cmp.{IsTotalOrder, nat_cmp_total}
+use Rattle.std.proofs.Common.{◌≡◌, ◌∙◌, ap, refl, Bool, true, cond, Option, Some, None}
+use Rattle.std.specs.Cmp.{IsTotalOrder, nat_cmp_total, eq_by_cmp_equiv}
 use Rattle.std.specs.Cmp.Lexicographic.{slice_cmp}
-use Rattle.std.specs.Ordering.{nat_cmp}
+use Rattle.std.specs.Ordering.{nat_cmp, eq_by_cmp}
 use Rattle.std.specs.FinMap as map
 use Rattle.std.proofs.lemmas.Cmp.{then_total, on_total, nat_list_cmp_total}
 use Rattle.std.proofs.lemmas.Map.Lookups.{exact_pairs, exact_unsigned, exact_bytes}
-use Rattle.mds_base.specs.Entries.{Place, place_cmp, Entries, Edit, Keep, Put, Drop, edited}
+use Rattle.mds_base.specs.declared.attr.Attr.{Attr}
+use Rattle.mds_base.specs.declared.edit.Edit.{Edit}
+use Rattle.mds_base.specs.declared.edit.Edit.TheVariants.{Keep, Put, Take}
+use Rattle.mds_base.specs.Entries.{Place, place_cmp, Entries, edited, edited_entry}
 use Rattle.mds_base.proofs.Maps.{insert_apart, remove_apart}
 
 pub places_total : IsTotalOrder place_cmp
@@ -23,4 +26,13 @@ same_entries = map.same_map places_total exact_places
 pub edited_apart : (entries : Entries) (place : Place) (edit : Edit) (other : Place) → (other ≡ place → ⊥) → map.get (edited entries place edit) other ≡ map.get entries other
 edited_apart entries place Keep other differ = refl
 edited_apart entries place (Put attr) other differ = insert_apart places_total exact_places entries place attr other differ
-edited_apart entries place Drop other differ = remove_apart places_total exact_places entries place other differ
+edited_apart entries place Take other differ = remove_apart places_total exact_places entries place other differ
+
+itself : (place : Place) → eq_by_cmp place_cmp place place ≡ true
+itself place = (eq_by_cmp_equiv places_total).refl place
+
+-- at its place it leaves what it makes of the entry that stood there
+pub edited_here : (entries : Entries) (place : Place) (edit : Edit) → map.get (edited entries place edit) place ≡ edited_entry edit (map.get entries place)
+edited_here entries place Keep = refl
+edited_here entries place (Put attr) = map.get-insert places_total entries place attr place ∙ ap (λ (b : Bool). cond b (Some attr) (map.get entries place)) (itself place)
+edited_here entries place Take = map.get-remove places_total entries place place ∙ ap (λ (b : Bool). cond b None (map.get entries place)) (itself place)

@@ -8,6 +8,8 @@ use Rattle.std.specs.FinMap as map
 use Rattle.mds_base.specs.declared.limits.TheConstants.{FILE_MODE, DIRECTORY_MODE}
 use Rattle.mds_base.specs.declared.attr.Attr.{Attr}
 use Rattle.mds_base.specs.declared.attr.Stamp.{Stamp}
+use Rattle.mds_base.specs.declared.edit.Edit.{Edit}
+use Rattle.mds_base.specs.declared.edit.Edit.TheVariants.{Keep, Put, Take}
 
 -- where an entry stands: the number of its directory, and its name
 abbrev pub Place : Type 0
@@ -43,16 +45,17 @@ abbrev pub reset_attr : Attr → ℕ → ℕ → Option Stamp → Attr
 reset_attr attr mode size None = record attr { mode = mode; size = size }
 reset_attr attr mode size (Some stamp) = record { dir = attr.dir; mode = mode; size = size; owner = stamp.owner; mtime = stamp.mtime }
 
--- what becomes of one entry: it stays as it is, it gets attributes, or it goes
-pub data Edit : Type 0 where
-  Keep : Edit
-  Put : Attr → Edit
-  Drop : Edit
-
+-- the map after an edit of one entry
 abbrev pub edited : Entries → Place → Edit → Entries
 edited entries place Keep = entries
 edited entries place (Put attr) = map.insert entries place attr
-edited entries place Drop = map.remove entries place
+edited entries place Take = map.remove entries place
+
+-- the entry that is there after it
+abbrev pub edited_entry : Edit → Option Attr → Option Attr
+edited_entry Keep before = before
+edited_entry (Put attr) before = Some attr
+edited_entry Take before = None
 
 -- the codes by which a map of entries can be a model's value
 abbrev pub coded_place : Coded Place

@@ -5,6 +5,8 @@ use Rattle.std.specs.Prelude.{◌≡◌, ℕ, ◌+◌, ◌==◌, List, [], ◌�
 use Rattle.std.specs.List.{range_with_len}
 use Rattle.std.specs.FinMap as map
 use Rattle.mds_base.specs.declared.attr.Attr.{Attr}
+use Rattle.mds_base.specs.declared.edit.Edit.{Edit}
+use Rattle.mds_base.specs.declared.edit.Edit.TheVariants.{Keep, Put, Take}
 use Rattle.mds_base.specs.declared.row.Row.{Row}
 use Rattle.mds_base.specs.declared.call.Call.{Call}
 use Rattle.mds_base.specs.declared.call.Call.TheVariants.{Create, Mkdir, Remove, Lookup, Setattr, Scan, Grab, Load, Link, Seal, Unseal, Kill, Unlink}
@@ -12,7 +14,7 @@ use Rattle.mds_base.specs.declared.reply.Final.TheVariants.{Created, CreatedDir,
 use Rattle.mds_base.specs.declared.reply.Reply.{Reply}
 use Rattle.mds_base.specs.declared.reply.Reply.TheVariants.{Said, Found}
 use Rattle.mds_base.specs.Calls.{CallOn, OnName, OnDirectory, OnPartition, asked_of}
-use Rattle.mds_base.specs.Entries.{Place, Entries, Edit, Keep, Put, Drop, edited, is_file, new_file, new_directory, reset_attr}
+use Rattle.mds_base.specs.Entries.{Place, Entries, edited, is_file, new_file, new_directory, reset_attr}
 
 -- how many of a load's rows are absent, each row after the ones before it were added
 abbrev pub added : Entries → ℕ → List Row → ℕ
@@ -66,8 +68,8 @@ abbrev pub edit_of : Call → Reply → Option Attr → Edit
 edit_of (Create dir name) (Said Created) before = Put new_file
 edit_of (Mkdir dir name) (Said (CreatedDir number)) before = Put (new_directory number)
 edit_of (Link dir name id) (Said (CreatedDir number)) before = Put (new_directory number)
-edit_of (Remove dir name) (Said Removed) before = Drop
-edit_of (Unlink dir name id) (Said Removed) before = Drop
+edit_of (Remove dir name) (Said Removed) before = Take
+edit_of (Unlink dir name id) (Said Removed) before = Take
 edit_of (Setattr dir name mode size stamp) (Said Set) (Some attr) = Put (reset_attr attr mode size stamp)
 edit_of call reply before = Keep
 

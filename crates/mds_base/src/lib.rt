@@ -13,6 +13,7 @@ mod ask;
 mod attr;
 mod call;
 mod cursor;
+mod edit;
 mod entry;
 mod history;
 pub mod limits;
@@ -34,6 +35,7 @@ pub use ask::Ask;
 pub use attr::{Attr, Stamp};
 pub use call::{Asked, Call, is_directory_number};
 pub use cursor::Cursor;
+pub use edit::Edit;
 pub use entry::Entry;
 pub use history::laws_of_histories;
 pub use limits::{
