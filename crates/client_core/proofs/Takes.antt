@@ -3,7 +3,7 @@ use Rattle.std.proofs.Common.{◌≡◌, refl, ℕ, Option, Some, None}
 use Rattle.mds_base.specs.declared.ask.Ask.{Ask}
 use Rattle.mds_base.specs.declared.cursor.Cursor.{Cursor}
 use Rattle.mds_base.specs.declared.reply.Reply.{Reply}
-use Rattle.records.specs.declared.msg.Msg.TheVariants.{Request, Answer, Busy, Held, Installed}
+use Rattle.records.specs.declared.msg.Msg.TheVariants.{Request, Answer, Busy, Held, Page, Closed, Installed}
 use Rattle.client_core.specs.declared.client.Pending.{Pending}
 use Rattle.client_core.specs.Clients.{ClientV}
 use Rattle.client_core.specs.Taking.{take_at, answered_if, busy_if, held_if, ignored, present_at, answers_at}

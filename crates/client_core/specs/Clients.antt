@@ -3,11 +3,11 @@ use Rattle.std.specs.Prelude.{◌≡◌, ℕ, ◌+◌, ◌^◌, ◌<◌, List, O
 use Rattle.std.specs.Ordering.{nat_cmp}
 use Rattle.std.specs.FinMap as map
 use Rattle.std.specs.FinSet as set
-use Rattle.mds_base.specs.Calls.{dir_of}
+use Rattle.mds_base.specs.Calls.{CallOn, OnName, OnDirectory, OnPartition, asked_of, dir_of}
 use Rattle.mds_base.specs.declared.TheConstants.{RADIX}
 use Rattle.mds_base.specs.declared.setup.Setup.{Setup}
 use Rattle.mds_base.specs.declared.call.Call.{Call}
-use Rattle.mds_base.specs.declared.call.Call.TheVariants.{Create, Mkdir, Remove, Lookup, Setattr, Scan, Grab, Load, Link}
+use Rattle.mds_base.specs.declared.call.Call.TheVariants.{Scan}
 use Rattle.mds_base.specs.declared.cursor.Cursor.{Cursor}
 use Rattle.records.specs.declared.msg.Msg.{Msg}
 use Rattle.records.specs.declared.msg.Msg.TheVariants.{Request}
@@ -41,17 +41,14 @@ bits_in client dir = unwrap_or (map.get client.bits dir) zero_bits
 abbrev pub located_in : ClientV → ℕ → List ℕ → ℕ
 located_in client dir name = located RADIX (hash_of name) (has (bits_in client dir))
 
--- the partition to which the client sends a call; a load goes to partition 0, and so does the first page of a scan
+-- the partition to which the client sends a call; the first page of a scan is asked of partition 0
+abbrev pub target_on : ClientV → CallOn → ℕ
+target_on client (OnName dir name changes) = located_in client dir name
+target_on client (OnDirectory dir) = 0
+target_on client (OnPartition dir part) = part
+
 abbrev pub target_of : ClientV → Call → ℕ
-target_of client (Create dir name) = located_in client dir name
-target_of client (Mkdir dir name) = located_in client dir name
-target_of client (Remove dir name) = located_in client dir name
-target_of client (Lookup dir name) = located_in client dir name
-target_of client (Setattr dir name mode size) = located_in client dir name
-target_of client (Scan dir) = 0
-target_of client (Grab dir name count) = located_in client dir name
-target_of client (Load dir rows) = 0
-target_of client (Link dir name id) = located_in client dir name
+target_of client call = target_on client (asked_of call)
 
 -- a scan begins before all names
 abbrev pub cursor_of : Call → Option Cursor

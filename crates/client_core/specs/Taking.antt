@@ -1,17 +1,16 @@
 -- What a client makes of a message.
 use Rattle.std.specs.Prelude.{◌≡◌, ℕ, ◌&&◌, ◌==◌, Bool, true, false, Option, Some, None}
 use Rattle.mds_base.specs.declared.call.Call.{Call}
-use Rattle.mds_base.specs.declared.call.Call.TheVariants.{Create, Mkdir, Remove, Lookup, Setattr, Scan, Grab, Load, Link}
 use Rattle.mds_base.specs.declared.reply.Reply.{Reply}
 use Rattle.mds_base.specs.declared.reply.Reply.TheVariants.{Said, Found, Listed}
 use Rattle.records.specs.declared.msg.Msg.{Msg}
-use Rattle.records.specs.declared.msg.Msg.TheVariants.{Redirect, Answer, Busy, Held}
+use Rattle.records.specs.declared.msg.Msg.TheVariants.{Redirect, Answer, Busy, Held, Page, Closed}
 use Rattle.bitmap.specs.Bits.{Bits}
 use Rattle.client_core.specs.declared.client.Pending.{Pending}
 use Rattle.client_core.specs.declared.taken.Taken.{Taken}
 use Rattle.client_core.specs.declared.taken.Taken.TheVariants as variants
 use Rattle.client_core.specs.Clients.{ClientV, target_of, merged, resent}
-use Rattle.mds_base.specs.Calls.{dir_of}
+use Rattle.mds_base.specs.Calls.{CallOn, OnName, OnDirectory, OnPartition, asked_of, dir_of}
 
 abbrev pub is_said : Reply → Bool
 is_said (Said said) = true
@@ -24,16 +23,14 @@ is_looked (Found attr until) = true
 is_looked (Listed rows) = false
 
 -- whether a reply answers a call: a scan is answered by pages alone, and only a lookup finds attributes
+abbrev pub fits_on : CallOn → Reply → Bool
+fits_on (OnName dir name true) reply = is_said reply
+fits_on (OnName dir name false) reply = is_looked reply
+fits_on (OnDirectory dir) reply = false
+fits_on (OnPartition dir part) reply = is_said reply
+
 abbrev pub fits : Call → Reply → Bool
-fits (Scan dir) reply = false
-fits (Lookup dir name) reply = is_looked reply
-fits (Create dir name) reply = is_said reply
-fits (Mkdir dir name) reply = is_said reply
-fits (Remove dir name) reply = is_said reply
-fits (Setattr dir name mode size) reply = is_said reply
-fits (Grab dir name count) reply = is_said reply
-fits (Load dir rows) reply = is_said reply
-fits (Link dir name id) reply = is_said reply
+fits call reply = fits_on (asked_of call) reply
 
 -- whether numbers are those of the open call's present sending
 abbrev pub is_present : ClientV → Pending → ℕ → ℕ → Bool

@@ -5,15 +5,15 @@ ghost use Rattle.std.specs.FinSet as set;
 ghost use Rattle.bitmap.specs.Bits.{Bits};
 ghost use Rattle.client_core.specs.Clients.{new_client, bits_in, target_of, zero_bits, request_of, cursor_of, issued, issue_msg, merged, located_in, attempt_of, HasPending, HasRoom, SendsAgain};
 ghost use Rattle.mds_base.specs.Calls.{dir_of};
-ghost use Rattle.client_core.specs.Taking.{take, fits, is_said, answered_if, present_at, answers_at, redirects_at, redirected_at, IsTaken};
+ghost use Rattle.client_core.specs.Taking.{take, fits, is_said, is_looked, answered_if, present_at, answers_at, redirects_at, redirected_at, IsTaken};
 ghost use Rattle.client_core.specs.Ranges.{AreRanges};
 
 use crate::taken::Taken;
 use bitmap::Bitmap;
-use mds_base::{Ask, Call, Cursor, Name, Reply, Setup};
+use mds_base::{Ask, Asked, Call, Cursor, Name, Reply, Setup};
 use name_hash::hash;
 use placement::server_of;
-use records::Msg;
+use records::{BoxedCursor, Msg};
 use std::alloc::{AllocError, Global};
 use std::collections::BTreeMap;
 use std::marker::Model;
@@ -108,16 +108,10 @@ impl Client {
     fn target(&self, call: &Call) -> u32
         ensures { result ≡ target_of self.now call.now }
     {
-        match call {
-            Call::Create { dir, name } => self.locate(*dir, name),
-            Call::Mkdir { dir, name } => self.locate(*dir, name),
-            Call::Remove { dir, name } => self.locate(*dir, name),
-            Call::Lookup { dir, name } => self.locate(*dir, name),
-            Call::Setattr { dir, name, .. } => self.locate(*dir, name),
-            Call::Scan { .. } => 0,
-            Call::Grab { dir, name, .. } => self.locate(*dir, name),
-            Call::Load { .. } => 0,
-            Call::Link { dir, name, .. } => self.locate(*dir, name),
+        match call.asked() {
+            Asked::Name { dir, name, .. } => self.locate(dir, name),
+            Asked::Directory { .. } => 0,
+            Asked::Partition { part, .. } => part,
         }
     }
 
@@ -138,6 +132,7 @@ impl Client {
     {
         let server = server_of(call.dir(), self.target(call), self.setup.servers);
         let copy = call.copy(alloc)?;
+        let cursor = first_cursor(alloc, call)?;
         Ok(Msg::Request {
             server,
             ask: Ask {
@@ -146,7 +141,7 @@ impl Client {
                 attempt,
                 call: copy,
             },
-            cursor: first_cursor(call),
+            cursor,
         })
     }
 
@@ -227,8 +222,10 @@ impl Client {
                 dir,
                 bitmap,
                 ..
-            } => self.take_redirect(*seq, *attempt, *dir, bitmap),
+            } => self.take_redirect(*seq, *attempt, *dir, bitmap.get()),
             Msg::Request { .. } => Ok(Taken::Ignored),
+            Msg::Page { .. } => Ok(Taken::Ignored),
+            Msg::Closed { .. } => Ok(Taken::Ignored),
             Msg::Transfer { .. } => Ok(Taken::Ignored),
             Msg::Installed { .. } => Ok(Taken::Ignored),
         }
@@ -328,12 +325,15 @@ fn put_bits(bits: &mut BTreeMap<u64, Bitmap>, dir: u64, bitmap: Bitmap) -> Resul
     Ok(())
 }
 
-fn first_cursor(call: &Call) -> Option<Cursor>
-    ensures { result ≡ cursor_of call.now }
+fn first_cursor(alloc: Global, call: &Call) -> Result<Option<BoxedCursor>, AllocError>
+    ensures { IfOk result (λ cursor. cursor ≡ cursor_of call.now) }
 {
     match call {
-        Call::Scan { .. } => Some(Cursor { at: 0, after: None }),
-        _ => None,
+        Call::Scan { .. } => {
+            let first = BoxedCursor::new(alloc, Cursor { at: 0, after: None })?;
+            Ok(Some(first))
+        }
+        _ => Ok(None),
     }
 }
 
@@ -341,20 +341,21 @@ fn first_cursor(call: &Call) -> Option<Cursor>
 fn fits(call: &Call, reply: &Reply) -> bool
     ensures { result ≡ fits call.now reply.now }
 {
-    match call {
-        Call::Scan { .. } => false,
-        Call::Lookup { .. } => match reply {
-            Reply::Said(_) => true,
-            Reply::Found { .. } => true,
-            Reply::Listed { .. } => false,
-        },
-        Call::Create { .. } => is_said(reply),
-        Call::Mkdir { .. } => is_said(reply),
-        Call::Remove { .. } => is_said(reply),
-        Call::Setattr { .. } => is_said(reply),
-        Call::Grab { .. } => is_said(reply),
-        Call::Load { .. } => is_said(reply),
-        Call::Link { .. } => is_said(reply),
+    match call.asked() {
+        Asked::Name { changes: true, .. } => is_said(reply),
+        Asked::Name { changes: false, .. } => is_looked(reply),
+        Asked::Directory { .. } => false,
+        Asked::Partition { .. } => is_said(reply),
+    }
+}
+
+fn is_looked(reply: &Reply) -> bool
+    ensures { result ≡ is_looked reply.now }
+{
+    match reply {
+        Reply::Said(_) => true,
+        Reply::Found { .. } => true,
+        Reply::Listed { .. } => false,
     }
 }
 

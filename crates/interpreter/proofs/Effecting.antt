@@ -5,7 +5,7 @@ use Rattle.std.specs.Fmt.{digit_glyph}
 use Rattle.std.specs.List.{flat_map}
 use Rattle.std.proofs.lemmas.Bool.{and_parts, and_from, leb-true, ne_eqb}
 use Rattle.mds_base.specs.declared.call.Call.{Call}
-use Rattle.mds_base.specs.declared.call.Call.TheVariants.{Create, Mkdir, Remove, Lookup, Setattr, Scan, Grab, Load, Link}
+use Rattle.mds_base.specs.declared.call.Call.TheVariants.{Create, Mkdir, Remove, Lookup, Setattr, Scan, Grab, Load, Link, Seal, Unseal, Kill, Unlink}
 use Rattle.mds_base.specs.declared.entry.Entry.{Entry}
 use Rattle.script.specs.Text.{is_plain_byte, byte_text, name_text}
 use Rattle.simulation.specs.declared.made.Made.{Made}
@@ -16,8 +16,8 @@ use Rattle.world.specs.Histories as past
 use Rattle.world.specs.Histories.{MadeV, AnsweredV, stands, stands_as, is_taken, entries_of}
 use Rattle.interpreter.specs.EventText.{effects_text}
 use Rattle.interpreter.specs.Payments.{IsPrinted, TellsNoStop, has_no_feed, times, stopped_line}
-use Rattle.interpreter.specs.Text.{call_text, place_text, reply_text, effect_line, effect_of, effects_of}
-use Rattle.interpreter.proofs.Paying.{clean_append, decimal_clean, reply_clean, other_times}
+use Rattle.interpreter.specs.Text.{call_text, stamp_text, place_text, reply_text, effect_line, effect_of, effects_of}
+use Rattle.interpreter.proofs.Paying.{clean_append, decimal_clean, stamp_clean, reply_clean, other_times}
 
 module _ {X : Type 0} (seen : X → Contents) (images : X → Image → Type 0) (sim : SimulationV X) (run : RunV) (shows : Shows seen images sim run) where
   kind_same : (kind : past.Kind) → kind_stands sim.taken (kind_of kind) ≡ stands_as run.trace.past.answered kind
@@ -74,11 +74,18 @@ call_clean (Create dir name) = place_clean (codes "create") dir name refl
 call_clean (Mkdir dir name) = place_clean (codes "mkdir") dir name refl
 call_clean (Remove dir name) = place_clean (codes "remove") dir name refl
 call_clean (Lookup dir name) = place_clean (codes "lookup") dir name refl
-call_clean (Setattr dir name mode size) = more_clean (place_text (codes "setattr") dir name ++ codes " " ++ decimal mode) size (more_clean (place_text (codes "setattr") dir name) mode (place_clean (codes "setattr") dir name refl))
+call_clean (Setattr dir name mode size stamp) =
+    clean_append (place_text (codes "setattr") dir name ++ codes " " ++ decimal mode ++ codes " " ++ decimal size) (stamp_text stamp)
+    (more_clean (place_text (codes "setattr") dir name ++ codes " " ++ decimal mode) size (more_clean (place_text (codes "setattr") dir name) mode (place_clean (codes "setattr") dir name refl)))
+    (stamp_clean stamp)
 call_clean (Scan dir) = decimal_clean dir
 call_clean (Grab dir name count) = more_clean (place_text (codes "grab") dir name) count (place_clean (codes "grab") dir name refl)
 call_clean (Load dir rows) = more_clean (codes "load " ++ decimal dir) (length rows) (decimal_clean dir)
 call_clean (Link dir name id) = more_clean (place_text (codes "link") dir name) id (place_clean (codes "link") dir name refl)
+call_clean (Seal dir part epoch) = more_clean (codes "seal " ++ decimal dir ++ codes " " ++ decimal part) epoch (more_clean (codes "seal " ++ decimal dir) part (decimal_clean dir))
+call_clean (Unseal dir part epoch) = more_clean (codes "unseal " ++ decimal dir ++ codes " " ++ decimal part) epoch (more_clean (codes "unseal " ++ decimal dir) part (decimal_clean dir))
+call_clean (Kill dir epoch) = more_clean (codes "kill " ++ decimal dir) epoch (decimal_clean dir)
+call_clean (Unlink dir name id) = more_clean (place_text (codes "unlink") dir name) id (place_clean (codes "unlink") dir name refl)
 
 effect_printed : (entry : Entry) → IsPrinted (effect_line entry)
 effect_printed entry =

@@ -9,10 +9,11 @@ use Rattle.std.proofs.lemmas.Fmt.{decimal_injective, decimal_by_steps}
 use Rattle.std.proofs.lemmas.Grind.{flat_map-append}
 use Rattle.std.proofs.lemmas.List.{append_cancel_left, append_cancel_right}
 use Rattle.std.proofs.lemmas.Slice.Eq.{bytes_eq-Decides}
-use Rattle.mds_base.specs.Entries.{is_file}
+use Rattle.mds_base.specs.Entries.{is_file, stamp_of}
 use Rattle.mds_base.specs.declared.attr.Attr.{Attr}
+use Rattle.mds_base.specs.declared.attr.Stamp.{Stamp}
 use Rattle.mds_base.specs.declared.reply.Final.{Final}
-use Rattle.mds_base.specs.declared.reply.Final.TheVariants.{Created, CreatedDir, Exists, Removed, Missing, IsDir, Set, Ids, Loaded, Stale}
+use Rattle.mds_base.specs.declared.reply.Final.TheVariants.{Created, CreatedDir, Exists, Removed, Missing, IsDir, Set, Ids, Loaded, Stale, Sealed, NotEmpty, Late, Opened, Killed}
 use Rattle.mds_base.specs.declared.reply.Reply.{Reply}
 use Rattle.mds_base.specs.declared.reply.Reply.TheVariants.{Said, Found, Listed}
 use Rattle.client_core.specs.declared.taken.Taken.{Taken}
@@ -24,7 +25,7 @@ use Rattle.simulation.proofs.Licensing.{licensed_on, are_licensed_same}
 use Rattle.script.specs.declared.line.Line.{Line}
 use Rattle.simulation.specs.Shows.{SimulationV}
 use Rattle.interpreter.specs.Payments.{IsPrinted, Pays, fuses_of, has_no_feed, text_of, times, stopped_line}
-use Rattle.interpreter.specs.Text.{kind_text, final_text, reply_text, taken_line, server_line}
+use Rattle.interpreter.specs.Text.{stamp_text, kind_text, final_text, reply_text, taken_line, server_line}
 
 -- ---- bytes of a line
 
@@ -52,12 +53,23 @@ pub decimal_clean : (n : ℕ) → has_no_feed (decimal n) ≡ true
 unfolding digits
 decimal_clean n = onto_clean 64 n [] refl
 
+pub stamp_clean : (stamp : Option Stamp) → has_no_feed (stamp_text stamp) ≡ true
+stamp_clean None = refl
+stamp_clean (Some stamp) = clean_append (codes " " ++ decimal stamp.owner ++ codes " ") (decimal stamp.mtime)
+    (clean_append (codes " " ++ decimal stamp.owner) (codes " ") (clean_append (codes " ") (decimal stamp.owner) refl (decimal_clean stamp.owner)) refl) (decimal_clean stamp.mtime)
+
+-- a mode and a size behind other words
+sized_clean : (kind : List ℕ) (attr : Attr) → has_no_feed kind ≡ true → has_no_feed (kind ++ codes " " ++ decimal attr.mode ++ codes " " ++ decimal attr.size) ≡ true
+sized_clean kind attr clean =
+    clean_append (kind ++ codes " " ++ decimal attr.mode ++ codes " ") (decimal attr.size)
+    (clean_append (kind ++ codes " " ++ decimal attr.mode) (codes " ") (clean_append (kind ++ codes " ") (decimal attr.mode) (clean_append kind (codes " ") clean refl) (decimal_clean attr.mode)) refl)
+    (decimal_clean attr.size)
+
 kind_clean : (attr : Attr) → has_no_feed (kind_text attr) ≡ true
 kind_clean attr =
     let kind : List ℕ = if is_file attr then codes "file" else (codes "dir " ++ decimal attr.dir) in
-    clean_append (kind ++ codes " " ++ decimal attr.mode ++ codes " ") (decimal attr.size)
-    (clean_append (kind ++ codes " " ++ decimal attr.mode) (codes " ") (clean_append (kind ++ codes " ") (decimal attr.mode) (clean_append kind (codes " ") (by (is_file attr)) refl) (decimal_clean attr.mode)) refl)
-    (decimal_clean attr.size)
+    clean_append (kind ++ codes " " ++ decimal attr.mode ++ codes " " ++ decimal attr.size) (stamp_text (stamp_of attr))
+    (sized_clean kind attr (by (is_file attr))) (stamp_clean (stamp_of attr))
   where
     by : (b : Bool) → has_no_feed (if b then codes "file" else (codes "dir " ++ decimal attr.dir)) ≡ true
     by true = refl
@@ -74,6 +86,11 @@ final_clean Set = refl
 final_clean (Ids first) = decimal_clean first
 final_clean (Loaded count) = decimal_clean count
 final_clean Stale = refl
+final_clean (Sealed depth epoch) = clean_append (codes "sealed " ++ decimal depth ++ codes " ") (decimal epoch) (clean_append (codes "sealed " ++ decimal depth) (codes " ") (decimal_clean depth) refl) (decimal_clean epoch)
+final_clean NotEmpty = refl
+final_clean Late = refl
+final_clean Opened = refl
+final_clean Killed = refl
 
 pub reply_clean : (reply : Reply) → has_no_feed (reply_text reply) ≡ true
 reply_clean (Said said) = final_clean said

@@ -9,12 +9,12 @@ use Rattle.client_core.specs.Clients.{ClientV}
 use Rattle.node_core.specs.Nodes.{has_numbers}
 use Rattle.node_store.specs.Store.{Store}
 use Rattle.records.specs.declared.msg.Msg.{Msg}
-use Rattle.records.specs.declared.msg.Msg.TheVariants.{Request, Redirect, Answer, Busy, Held, Transfer, Installed}
+use Rattle.records.specs.Messages.{server_of_msg}
 use Rattle.script.specs.declared.line.Line.{Line}
 use Rattle.script.specs.declared.line.Line.TheVariants as lines
 use Rattle.world.specs.declared.state.ServerState.{ServerState}
 use Rattle.world.specs.declared.state.ClientState.{ClientState}
-use Rattle.world.specs.Events.{seat_at, is_open, is_up, can_serve, is_for_server, is_for_client}
+use Rattle.world.specs.Events.{seat_at, is_one, is_open, is_up, can_serve, is_for_server, is_for_client}
 use Rattle.simulation.specs.Calls.{taken_of}
 use Rattle.simulation.specs.Runs.{RunV, is_named}
 use Rattle.simulation.specs.Shows.{SimulationV, Shows, IsServerAt, IsServer, IsDue, client_at, is_idle, is_busy, server_for, store_is_up, up_has_numbers, store_has_numbers, has_numbers_at}
@@ -107,28 +107,24 @@ up_below (store ∷ stores) (suc k) e = let h = up_below stores k e in omega (ar
 number_is : (a b : ℕ) → (a == b) ≡ true → a ≡ b
 number_is a b e = eqb-true a b e
 
+for_one : (server : ℕ) (to : Option ℕ) → is_one server to ≡ true → to ≡ Some server
+for_one server None e = cc
+for_one server (Some to) e = ap (λ s. Some s) (number_is to server e)
+
 for_server : (server : ℕ) (msg : Option Msg) → is_for_server server msg ≡ true → server_for msg ≡ Some server
 for_server server None e = cc
-for_server server (Some (Request to ask cursor)) e = ap (λ s. Some s) (number_is to server e)
-for_server server (Some (Redirect to seq attempt dir bits)) e = cc
-for_server server (Some (Answer to seq attempt reply)) e = cc
-for_server server (Some (Busy to seq attempt part depth)) e = cc
-for_server server (Some (Held to seq attempt until)) e = cc
-for_server server (Some (Transfer to dir part depth bits sessions top rows)) e = ap (λ s. Some s) (number_is to server e)
-for_server server (Some (Installed to dir part child)) e = ap (λ s. Some s) (number_is to server e)
+for_server server (Some msg) e = for_one server (server_of_msg msg) e
 
 itself : (a b : ℕ) → Some a ≡ Some b → (a == b) ≡ true
 itself a b e = eq-eqb a b (same_Some a b e)
 
+one_of : (server : ℕ) (to : Option ℕ) → to ≡ Some server → is_one server to ≡ true
+one_of server None e = cc
+one_of server (Some to) e = itself to server e
+
 server_of : (server : ℕ) (msg : Option Msg) → server_for msg ≡ Some server → is_for_server server msg ≡ true
 server_of server None e = cc
-server_of server (Some (Request to ask cursor)) e = itself to server e
-server_of server (Some (Redirect to seq attempt dir bits)) e = cc
-server_of server (Some (Answer to seq attempt reply)) e = cc
-server_of server (Some (Busy to seq attempt part depth)) e = cc
-server_of server (Some (Held to seq attempt until)) e = cc
-server_of server (Some (Transfer to dir part depth bits sessions top rows)) e = itself to server e
-server_of server (Some (Installed to dir part child)) e = itself to server e
+server_of server (Some msg) e = one_of server (server_of_msg msg) e
 
 -- ---- the simulation and the world
 

@@ -1,12 +1,13 @@
 -- How calls, replies and effects are printed.
-use Rattle.std.specs.Prelude.{ℕ, List, [], ◌++◌, if◌then◌else◌, length, codes, decimal}
+use Rattle.std.specs.Prelude.{ℕ, List, [], ◌++◌, Option, Some, None, if◌then◌else◌, length, codes, decimal}
 use Rattle.std.specs.List.{flat_map}
-use Rattle.mds_base.specs.Entries.{is_file}
+use Rattle.mds_base.specs.Entries.{is_file, stamp_of}
 use Rattle.mds_base.specs.declared.attr.Attr.{Attr}
+use Rattle.mds_base.specs.declared.attr.Stamp.{Stamp}
 use Rattle.mds_base.specs.declared.call.Call.{Call}
-use Rattle.mds_base.specs.declared.call.Call.TheVariants.{Create, Mkdir, Remove, Lookup, Setattr, Scan, Grab, Load, Link}
+use Rattle.mds_base.specs.declared.call.Call.TheVariants.{Create, Mkdir, Remove, Lookup, Setattr, Scan, Grab, Load, Link, Seal, Unseal, Kill, Unlink}
 use Rattle.mds_base.specs.declared.reply.Final.{Final}
-use Rattle.mds_base.specs.declared.reply.Final.TheVariants.{Created, CreatedDir, Exists, Removed, Missing, IsDir, Set, Ids, Loaded, Stale}
+use Rattle.mds_base.specs.declared.reply.Final.TheVariants.{Created, CreatedDir, Exists, Removed, Missing, IsDir, Set, Ids, Loaded, Stale, Sealed, NotEmpty, Late, Opened, Killed}
 use Rattle.mds_base.specs.declared.reply.Reply.{Reply}
 use Rattle.mds_base.specs.declared.reply.Reply.TheVariants.{Said, Found, Listed}
 use Rattle.mds_base.specs.declared.entry.Entry.{Entry}
@@ -20,20 +21,29 @@ use Rattle.simulation.specs.Shows.{SimulationV, stands_in}
 abbrev pub place_text : List ℕ → ℕ → List ℕ → List ℕ
 place_text verb dir name = verb ++ codes " " ++ decimal dir ++ codes " " ++ name_text name
 
+-- an owner and a time of modification behind other words, where there are any
+abbrev pub stamp_text : Option Stamp → List ℕ
+stamp_text None = []
+stamp_text (Some stamp) = codes " " ++ decimal stamp.owner ++ codes " " ++ decimal stamp.mtime
+
 abbrev pub call_text : Call → List ℕ
 call_text (Create dir name) = place_text (codes "create") dir name
 call_text (Mkdir dir name) = place_text (codes "mkdir") dir name
 call_text (Remove dir name) = place_text (codes "remove") dir name
 call_text (Lookup dir name) = place_text (codes "lookup") dir name
-call_text (Setattr dir name mode size) = place_text (codes "setattr") dir name ++ codes " " ++ decimal mode ++ codes " " ++ decimal size
+call_text (Setattr dir name mode size stamp) = place_text (codes "setattr") dir name ++ codes " " ++ decimal mode ++ codes " " ++ decimal size ++ stamp_text stamp
 call_text (Scan dir) = codes "scan " ++ decimal dir
 call_text (Grab dir name count) = place_text (codes "grab") dir name ++ codes " " ++ decimal count
 call_text (Load dir rows) = codes "load " ++ decimal dir ++ codes " " ++ decimal (length rows)
 call_text (Link dir name id) = place_text (codes "link") dir name ++ codes " " ++ decimal id
+call_text (Seal dir part epoch) = codes "seal " ++ decimal dir ++ codes " " ++ decimal part ++ codes " " ++ decimal epoch
+call_text (Unseal dir part epoch) = codes "unseal " ++ decimal dir ++ codes " " ++ decimal part ++ codes " " ++ decimal epoch
+call_text (Kill dir epoch) = codes "kill " ++ decimal dir ++ codes " " ++ decimal epoch
+call_text (Unlink dir name id) = place_text (codes "unlink") dir name ++ codes " " ++ decimal id
 
 -- what an entry is
 abbrev pub kind_text : Attr → List ℕ
-kind_text attr = (if is_file attr then codes "file" else (codes "dir " ++ decimal attr.dir)) ++ codes " " ++ decimal attr.mode ++ codes " " ++ decimal attr.size
+kind_text attr = (if is_file attr then codes "file" else (codes "dir " ++ decimal attr.dir)) ++ codes " " ++ decimal attr.mode ++ codes " " ++ decimal attr.size ++ stamp_text (stamp_of attr)
 
 abbrev pub final_text : Final → List ℕ
 final_text Created = codes "created"
@@ -46,6 +56,11 @@ final_text Set = codes "set"
 final_text (Ids first) = codes "ids " ++ decimal first
 final_text (Loaded count) = codes "loaded " ++ decimal count
 final_text Stale = codes "stale"
+final_text (Sealed depth epoch) = codes "sealed " ++ decimal depth ++ codes " " ++ decimal epoch
+final_text NotEmpty = codes "notempty"
+final_text Late = codes "late"
+final_text Opened = codes "opened"
+final_text Killed = codes "killed"
 
 abbrev pub reply_text : Reply → List ℕ
 reply_text (Said said) = final_text said

@@ -5,7 +5,7 @@ ghost use Rattle.std.specs.Fmt.{digit_glyph};
 ghost use Rattle.script.specs.Text.{is_plain_byte, name_text};
 
 use client_core::Taken;
-use mds_base::{Attr, Call, Entry, Final, Name, Reply};
+use mds_base::{Attr, Call, Entry, Final, Name, Reply, Stamp};
 use std::{fmt, str};
 
 /// A name as a script spells it: bytes 21 to 7e (hexadecimal) but `%` as they are, every other byte as `%` and two
@@ -88,6 +88,24 @@ fn hex_digit(digit: u8) -> char
     }
 }
 
+/// An owner and a time of modification behind other words, where there are any.
+#[derive(Drop)]
+pub(crate) struct StampText(pub(crate) Option<Stamp>);
+
+impl fmt::Display for StampText {
+    ghost use Rattle.std.specs.Prelude.{Some};
+    ghost use Rattle.interpreter.specs.Text.{stamp_text};
+
+    ghost output = { λ text. Some (stamp_text text.0) };
+
+    fn fmt<W: fmt::Write>(&self, f: &mut fmt::Formatter<W>) -> fmt::Result {
+        match self.0 {
+            None => Ok(()),
+            Some(Stamp { owner, mtime }) => write!(f, " {owner} {mtime}"),
+        }
+    }
+}
+
 /// A call as a script spells it.
 #[derive(Drop)]
 pub(crate) struct CallText<'a>(pub(crate) &'a Call);
@@ -109,11 +127,21 @@ impl fmt::Display for CallText<'_> {
                 name,
                 mode,
                 size,
-            } => write!(f, "setattr {dir} {} {mode} {size}", NameText(name)),
+                stamp,
+            } => write!(
+                f,
+                "setattr {dir} {} {mode} {size}{}",
+                NameText(name),
+                StampText(*stamp)
+            ),
             Call::Scan { dir } => write!(f, "scan {dir}"),
             Call::Grab { dir, name, count } => write!(f, "grab {dir} {} {count}", NameText(name)),
             Call::Load { dir, rows } => write!(f, "load {dir} {}", rows.rows().len()),
             Call::Link { dir, name, id } => write!(f, "link {dir} {} {id}", NameText(name)),
+            Call::Seal { dir, part, epoch } => write!(f, "seal {dir} {part} {epoch}"),
+            Call::Unseal { dir, part, epoch } => write!(f, "unseal {dir} {part} {epoch}"),
+            Call::Kill { dir, epoch } => write!(f, "kill {dir} {epoch}"),
+            Call::Unlink { dir, name, id } => write!(f, "unlink {dir} {} {id}", NameText(name)),
         }
     }
 }
@@ -129,11 +157,14 @@ impl fmt::Display for KindText {
     ghost output = { λ text. Some (kind_text text.0) };
 
     fn fmt<W: fmt::Write>(&self, f: &mut fmt::Formatter<W>) -> fmt::Result {
-        let Attr { dir, mode, size } = self.0;
+        let Attr {
+            dir, mode, size, ..
+        } = self.0;
+        let stamp = StampText(self.0.stamp());
         if dir == 0 {
-            write!(f, "file {mode} {size}")
+            write!(f, "file {mode} {size}{stamp}")
         } else {
-            write!(f, "dir {dir} {mode} {size}")
+            write!(f, "dir {dir} {mode} {size}{stamp}")
         }
     }
 }
@@ -160,6 +191,11 @@ impl fmt::Display for FinalText {
             Final::Ids(first) => write!(f, "ids {first}"),
             Final::Loaded(count) => write!(f, "loaded {count}"),
             Final::Stale => write!(f, "stale"),
+            Final::Sealed { depth, epoch } => write!(f, "sealed {depth} {epoch}"),
+            Final::NotEmpty => write!(f, "notempty"),
+            Final::Late => write!(f, "late"),
+            Final::Opened => write!(f, "opened"),
+            Final::Killed => write!(f, "killed"),
         }
     }
 }

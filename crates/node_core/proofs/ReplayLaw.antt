@@ -5,7 +5,7 @@ use Rattle.mds_base.specs.declared.ask.Ask.{Ask}
 use Rattle.mds_base.specs.declared.reply.Final.{Final}
 use Rattle.mds_base.specs.declared.reply.Reply.{Reply}
 use Rattle.records.specs.declared.msg.Msg.{Msg}
-use Rattle.records.specs.declared.msg.Msg.TheVariants.{Request, Redirect, Answer, Busy, Held, Transfer, Installed}
+use Rattle.records.specs.declared.msg.Msg.TheVariants.{Request, Redirect, Answer, Busy, Held, Page, Closed, Transfer, Installed}
 use Rattle.sessions.specs.Kept.{judge_kept}
 use Rattle.node_core.specs.Nodes.{StoreV, owns, has_numbers, session_in}
 use Rattle.node_core.specs.Rules.{Asked, ChangeOf, LookOf, NotServed, asked_of, said_in, Outcome, Silent, Looks, Repeats, Carries, outcome_of, outcome}
@@ -36,8 +36,10 @@ served_again store ask now (Carries said) is numbers = carried_again store ask n
 pub replay_law : (store : StoreV) (msg : Msg) (now : ℕ) → has_numbers store.node ≡ true → replayed_all store (serve store msg now).records ≡ (serve store msg now).store
 replay_law store (Request to ask cursor) now numbers = served_again store ask now (outcome store ask now) refl numbers
 replay_law store (Redirect client seq attempt dir bits) now numbers = refl
-replay_law store (Transfer to dir part depth bits sessions top rows) now numbers = refl
+replay_law store (Transfer to dir part depth index count bits sessions top rows) now numbers = refl
 replay_law store (Answer client seq attempt reply) now numbers = refl
 replay_law store (Busy client seq attempt part depth) now numbers = refl
 replay_law store (Held client seq attempt until) now numbers = refl
+replay_law store (Page client seq attempt rows next) now numbers = refl
+replay_law store (Closed client seq attempt part epoch) now numbers = refl
 replay_law store (Installed to dir part child) now numbers = refl

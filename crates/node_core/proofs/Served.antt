@@ -4,7 +4,7 @@ use Rattle.std.specs.FinMap as map
 use Rattle.mds_base.specs.declared.attr.Attr.{Attr}
 use Rattle.mds_base.specs.declared.ask.Ask.{Ask}
 use Rattle.mds_base.specs.declared.call.Call.{Call}
-use Rattle.mds_base.specs.declared.call.Call.TheVariants.{Create, Mkdir, Remove, Lookup, Setattr, Scan, Grab, Load, Link}
+use Rattle.mds_base.specs.declared.call.Call.TheVariants.{Create, Mkdir, Remove, Lookup, Setattr, Scan, Grab, Load, Link, Seal, Unseal, Kill, Unlink}
 use Rattle.mds_base.specs.declared.reply.Final.{Final}
 use Rattle.mds_base.specs.declared.reply.Final.TheVariants.{Removed, IsDir}
 use Rattle.mds_base.specs.declared.reply.Reply.TheVariants.{Said}
@@ -79,13 +79,17 @@ given_numbers (Mkdir d n) None fresh dir name e = refl
 given_numbers (Mkdir d n) (Some attr) fresh dir name e = refl
 given_numbers (Remove d n) None fresh dir name e = refl
 given_numbers (Remove d n) (Some attr) fresh dir name e = removed_numbers d n (attr.dir == 0)
-given_numbers (Setattr d n mode size) None fresh dir name e = refl
-given_numbers (Setattr d n mode size) (Some attr) fresh dir name e = refl
+given_numbers (Setattr d n mode size stamp) None fresh dir name e = refl
+given_numbers (Setattr d n mode size stamp) (Some attr) fresh dir name e = refl
 given_numbers (Lookup d n) before fresh dir name e = cc
 given_numbers (Scan d) before fresh dir name e = cc
 given_numbers (Grab d n count) before fresh dir name e = cc
 given_numbers (Load d rows) before fresh dir name e = cc
 given_numbers (Link d n id) before fresh dir name e = cc
+given_numbers (Seal d part epoch) before fresh dir name e = cc
+given_numbers (Unseal d part epoch) before fresh dir name e = cc
+given_numbers (Kill d epoch) before fresh dir name e = cc
+given_numbers (Unlink d n id) before fresh dir name e = cc
 
 -- what the code noted is what the specification notes
 noted_parts : (node : NodeV) (dir client seq next next' : ℕ) (said said' : Final) (edit edit' : entries.Edit) (before before' : Option Attr) → next ≡ next' → said ≡ said' → edit ≡ edit' → before ≡ before'

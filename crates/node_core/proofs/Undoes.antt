@@ -13,7 +13,7 @@ use Rattle.mds_base.specs.declared.call.Call.{Call}
 use Rattle.mds_base.specs.declared.reply.Final.{Final}
 use Rattle.mds_base.specs.RowKeys.{RowMap}
 use Rattle.records.specs.declared.msg.Msg.{Msg}
-use Rattle.records.specs.declared.msg.Msg.TheVariants.{Request, Redirect, Answer, Busy, Held, Transfer, Installed}
+use Rattle.records.specs.declared.msg.Msg.TheVariants.{Request, Redirect, Answer, Busy, Held, Page, Closed, Transfer, Installed}
 use Rattle.sessions.specs.declared.kept.Kept.{Kept}
 use Rattle.sessions.specs.Kept.{SessionMap, restored, put_back}
 use Rattle.node_core.specs.declared.part.Part.{Part}
@@ -117,10 +117,12 @@ asked_undone store ask o undo NotServed asked is = cc
 pub undo_law : (store : StoreV) (msg : Msg) (now : ℕ) (undo : Undo) → before store.node msg ≡ Some undo → undone (serve store msg now).store.node undo ≡ store.node
 undo_law store (Request to ask cursor) now undo is = asked_undone store ask (outcome store ask now) undo (asked_of ask.call) refl is
 undo_law store (Redirect client seq attempt dir bits) now undo is = cc
-undo_law store (Transfer to dir part depth bits sessions top rows) now undo is = cc
+undo_law store (Transfer to dir part depth index count bits sessions top rows) now undo is = cc
 undo_law store (Answer client seq attempt reply) now undo is = cc
 undo_law store (Busy client seq attempt part depth) now undo is = cc
 undo_law store (Held client seq attempt until) now undo is = cc
+undo_law store (Page client seq attempt rows next) now undo is = cc
+undo_law store (Closed client seq attempt part epoch) now undo is = cc
 undo_law store (Installed to dir part child) now undo is = cc
 
 none_node : (store : StoreV) (ask : Ask) (o : Outcome) (a : Asked) → asked_of ask.call ≡ a → before_asked store.node ask.client a ≡ None → (served_as store ask o).store.node ≡ store.node
@@ -135,10 +137,12 @@ none_node store ask (Carries said) NotServed asked is = ap (λ x. (carried_at st
 pub none_law : (store : StoreV) (msg : Msg) (now : ℕ) → before store.node msg ≡ None → (serve store msg now).store.node ≡ store.node
 none_law store (Request to ask cursor) now is = none_node store ask (outcome store ask now) (asked_of ask.call) refl is
 none_law store (Redirect client seq attempt dir bits) now is = refl
-none_law store (Transfer to dir part depth bits sessions top rows) now is = refl
+none_law store (Transfer to dir part depth index count bits sessions top rows) now is = refl
 none_law store (Answer client seq attempt reply) now is = refl
 none_law store (Busy client seq attempt part depth) now is = refl
 none_law store (Held client seq attempt until) now is = refl
+none_law store (Page client seq attempt rows next) now is = refl
+none_law store (Closed client seq attempt part epoch) now is = refl
 none_law store (Installed to dir part child) now is = refl
 
 -- The entries of partitions

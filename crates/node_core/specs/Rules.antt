@@ -3,7 +3,7 @@ use Rattle.std.specs.Prelude.{ℕ, ◌+◌, List, Option, Some, None, if◌then�
 use Rattle.mds_base.specs.declared.attr.Attr.{Attr}
 use Rattle.mds_base.specs.declared.ask.Ask.{Ask}
 use Rattle.mds_base.specs.declared.call.Call.{Call}
-use Rattle.mds_base.specs.declared.call.Call.TheVariants.{Create, Mkdir, Remove, Lookup, Setattr, Scan, Grab, Load, Link}
+use Rattle.mds_base.specs.declared.call.Call.TheVariants.{Create, Mkdir, Remove, Lookup, Setattr, Scan, Grab, Load, Link, Seal, Unseal, Kill, Unlink}
 use Rattle.mds_base.specs.declared.reply.Final.{Final}
 use Rattle.mds_base.specs.declared.reply.Final.TheVariants.{Created, CreatedDir, Exists, Removed, Missing, IsDir, Set, Stale}
 use Rattle.mds_base.specs.declared.reply.Reply.{Reply}
@@ -24,12 +24,16 @@ abbrev pub asked_of : Call → Asked
 asked_of (Create dir name) = ChangeOf dir name
 asked_of (Mkdir dir name) = ChangeOf dir name
 asked_of (Remove dir name) = ChangeOf dir name
-asked_of (Setattr dir name mode size) = ChangeOf dir name
+asked_of (Setattr dir name mode size stamp) = ChangeOf dir name
 asked_of (Lookup dir name) = LookOf dir name
 asked_of (Scan dir) = NotServed
 asked_of (Grab dir name count) = NotServed
 asked_of (Load dir rows) = NotServed
 asked_of (Link dir name id) = NotServed
+asked_of (Seal dir part epoch) = NotServed
+asked_of (Unseal dir part epoch) = NotServed
+asked_of (Kill dir epoch) = NotServed
+asked_of (Unlink dir name id) = NotServed
 
 -- the reply that the plain rules give to a change, by the entry that stands there, with the number that mkdir would give
 abbrev pub said_of : Call → Option Attr → ℕ → Final
@@ -39,8 +43,8 @@ said_of (Mkdir dir name) None fresh = CreatedDir fresh
 said_of (Mkdir dir name) (Some attr) fresh = Exists
 said_of (Remove dir name) None fresh = Missing
 said_of (Remove dir name) (Some attr) fresh = if is_file attr then Removed else IsDir
-said_of (Setattr dir name mode size) None fresh = Missing
-said_of (Setattr dir name mode size) (Some attr) fresh = Set
+said_of (Setattr dir name mode size stamp) None fresh = Missing
+said_of (Setattr dir name mode size stamp) (Some attr) fresh = Set
 said_of call before fresh = Stale
 
 -- the reply to a lookup

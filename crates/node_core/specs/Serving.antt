@@ -121,12 +121,13 @@ is_head node format servers server threshold =
 
 -- whether a record may follow: enough directory numbers are left, and a request with its client, number and call would
 -- be noted here, in its partition and with its final reply; the record that begins a log follows on a new node of its
--- numbers alone, and the one that begins a run always follows
+-- numbers alone, and the one that begins a run always follows; nothing splits yet, so no record of a split follows
 abbrev pub may_follow : StoreV → Record → Bool
 may_follow store (Served client seq part call said) =
     has_numbers store.node && (carries (outcome store (ask_of client seq call) 0) said && (part == part_at store (asked_of call)))
 may_follow store (Head format servers server threshold) = is_head store.node format servers server threshold
 may_follow store Opened = true
+may_follow store item = false
 
 -- the store once a record was replayed; a record that may not follow changes nothing
 abbrev pub replayed_as : StoreV → Record → Bool → StoreV

@@ -223,6 +223,10 @@ impl Node {
             Call::Grab { .. } => Ok(Plan::unchanging(nothing(alloc))),
             Call::Load { .. } => Ok(Plan::unchanging(nothing(alloc))),
             Call::Link { .. } => Ok(Plan::unchanging(nothing(alloc))),
+            Call::Seal { .. } => Ok(Plan::unchanging(nothing(alloc))),
+            Call::Unseal { .. } => Ok(Plan::unchanging(nothing(alloc))),
+            Call::Kill { .. } => Ok(Plan::unchanging(nothing(alloc))),
+            Call::Unlink { .. } => Ok(Plan::unchanging(nothing(alloc))),
         }
     }
 
@@ -348,6 +352,9 @@ impl Node {
                 clear_in(&mut self.parts);
                 Ok(true)
             }
+            Record::Begin { .. } => Ok(false),
+            Record::Install { .. } => Ok(false),
+            Record::End { .. } => Ok(false),
         }
     }
 
@@ -392,6 +399,10 @@ impl Node {
             Call::Grab { .. } => Ok(false),
             Call::Load { .. } => Ok(false),
             Call::Link { .. } => Ok(false),
+            Call::Seal { .. } => Ok(false),
+            Call::Unseal { .. } => Ok(false),
+            Call::Kill { .. } => Ok(false),
+            Call::Unlink { .. } => Ok(false),
         }
     }
 
@@ -461,11 +472,17 @@ impl Node {
                 Call::Grab { .. } => None,
                 Call::Load { .. } => None,
                 Call::Link { .. } => None,
+                Call::Seal { .. } => None,
+                Call::Unseal { .. } => None,
+                Call::Kill { .. } => None,
+                Call::Unlink { .. } => None,
             },
             Msg::Redirect { .. } => None,
             Msg::Answer { .. } => None,
             Msg::Busy { .. } => None,
             Msg::Held { .. } => None,
+            Msg::Page { .. } => None,
+            Msg::Closed { .. } => None,
             Msg::Transfer { .. } => None,
             Msg::Installed { .. } => None,
         }

@@ -115,26 +115,28 @@ pub fn weigh(call: &Call, before: Option<Attr>, fresh: u64) -> Weighed
 {
     match call {
         Call::Create { .. } => match before {
-            None => Weighed::put(Final::Created, 0, 420, 0),
+            None => Weighed::put(Final::Created, Attr::new_file()),
             Some(_) => Weighed::keep(Final::Exists),
         },
         Call::Mkdir { .. } => match before {
-            None => Weighed::put(Final::CreatedDir(fresh), fresh, 493, 0),
+            None => Weighed::put(Final::CreatedDir(fresh), Attr::new_directory(fresh)),
             Some(_) => Weighed::keep(Final::Exists),
         },
         Call::Remove { .. } => match before {
             None => Weighed::keep(Final::Missing),
             Some(attr) => {
-                if attr.dir == 0 {
+                if attr.is_file() {
                     Weighed::take(Final::Removed)
                 } else {
                     Weighed::keep(Final::IsDir)
                 }
             }
         },
-        Call::Setattr { mode, size, .. } => match before {
+        Call::Setattr {
+            mode, size, stamp, ..
+        } => match before {
             None => Weighed::keep(Final::Missing),
-            Some(attr) => Weighed::put(Final::Set, attr.dir, *mode, *size),
+            Some(attr) => Weighed::put(Final::Set, attr.reset(*mode, *size, *stamp)),
         },
         _ => Weighed::keep(Final::Stale),
     }
@@ -161,13 +163,13 @@ impl Weighed {
         }
     }
 
-    fn put(said: Final, dir: u64, mode: u32, size: u64) -> Weighed
+    fn put(said: Final, attr: Attr) -> Weighed
         ensures said { result.said ≡ said }
-        ensures edit { result.edit ≡ Edit.Put (record { dir = dir; mode = mode; size = size }) }
+        ensures edit { result.edit ≡ Edit.Put attr }
     {
         Weighed {
             said,
-            edit: Edit::Put(Attr { dir, mode, size }),
+            edit: Edit::Put(attr),
         }
     }
 }

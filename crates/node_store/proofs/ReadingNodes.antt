@@ -3,7 +3,7 @@ use Rattle.std.proofs.Common.{sym, subst, refl, ℕ, List, [], ◌∷◌, Bool, 
 use Rattle.mds_base.specs.declared.call.Call.{Call}
 use Rattle.mds_base.specs.declared.setup.Setup.{Setup}
 use Rattle.records.specs.declared.record.Record.{Record}
-use Rattle.records.specs.declared.record.Record.TheVariants.{Head, Opened, Served}
+use Rattle.records.specs.declared.record.Record.TheVariants.{Head, Opened, Begin, Install, End, Served}
 use Rattle.node_core.specs.Nodes.{StoreV, noted_in, new_node}
 use Rattle.node_core.specs.Rules.{Asked, ChangeOf, LookOf, NotServed, asked_of}
 use Rattle.node_core.specs.Serving.{carried_at, may_follow, replayed, replayed_as, replayed_all}
@@ -25,6 +25,9 @@ replayed_one server setup store (Served client seq part call said) false is = is
 replayed_one server setup store (Head format servers its threshold) follows is = is
 replayed_one server setup store Opened true is = record { server' = is.server'; setup' = is.setup'; from_two = is.from_two }
 replayed_one server setup store Opened false is = is
+replayed_one server setup store (Begin dir part depth) follows is = is
+replayed_one server setup store (Install dir part depth bitmap sessions rows) follows is = is
+replayed_one server setup store (End dir part depth) follows is = is
 
 pub still_one : (server : ℕ) (setup : Setup) (store : StoreV) (item : Record) → IsNodeOf server setup store.node → IsNodeOf server setup (replayed store item).node
 still_one server setup store item is = replayed_one server setup store item (may_follow store item) is

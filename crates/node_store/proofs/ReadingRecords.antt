@@ -8,11 +8,11 @@ use Rattle.std.proofs.lemmas.Grind.{flat_map-append}
 use Rattle.mds_base.specs.RowKeys.{RowMap}
 use Rattle.mds_base.specs.declared.call.Call.{Call}
 use Rattle.mds_base.specs.declared.store_fault.Head.{Head}
-use Rattle.mds_base.specs.declared.call.Call.TheVariants.{Create, Mkdir, Remove, Lookup, Setattr, Scan, Grab, Load, Link}
+use Rattle.mds_base.specs.declared.call.Call.TheVariants.{Create, Mkdir, Remove, Lookup, Setattr, Scan, Grab, Load, Link, Seal, Unseal, Kill, Unlink}
 use Rattle.records.specs.declared.fault.RecordFault.{RecordFault}
 use Rattle.records.specs.declared.fault.RecordFault.TheVariants as record_faults
 use Rattle.records.specs.declared.record.Record.{Record}
-use Rattle.records.specs.declared.record.Record.TheVariants.{Head as Begins, Opened, Served}
+use Rattle.records.specs.declared.record.Record.TheVariants.{Head as Begins, Opened, Begin, Install, End, Served}
 use Rattle.records.specs.Spelling.{IsRecord, IsChange, Spells, GivesOrMemory, record_spelling}
 use Rattle.records.specs.Reading.{record_at}
 use Rattle.records.proofs.Decoding.{Decodes, same_ok}
@@ -109,16 +109,23 @@ call_fits : (call : Call) → IsChange call → dir_of call < 2 ^ 48
 call_fits (Create dir name) change = change.0.1
 call_fits (Mkdir dir name) change = change.0.1
 call_fits (Remove dir name) change = change.0.1
-call_fits (Setattr dir name mode size) change = change.0.1
+call_fits (Setattr dir name mode size stamp) change = change.0.1
 call_fits (Lookup dir name) change = absurd change
 call_fits (Scan dir) change = absurd change
 call_fits (Grab dir name count) change = absurd change
 call_fits (Load dir rows) change = absurd change
 call_fits (Link dir name id) change = absurd change
+call_fits (Seal dir part epoch) change = absurd change
+call_fits (Unseal dir part epoch) change = absurd change
+call_fits (Kill dir epoch) change = absurd change
+call_fits (Unlink dir name id) change = absurd change
 
 pub fits : (item : Record) → IsRecord item → RecordFits item
 fits (Begins format servers server threshold) is = tt
 fits Opened is = tt
+fits (Begin dir part depth) is = tt
+fits (Install dir part depth bitmap sessions rows) is = tt
+fits (End dir part depth) is = tt
 fits (Served client seq part call said) is = call_fits call is.change
 
 abbrev with : NodeV → RowMap → StoreV

@@ -7,7 +7,7 @@ use Rattle.std.proofs.lemmas.Bool.{and_from, eq-eqb, leb-true}
 use Rattle.mds_base.specs.declared.ask.Ask.{Ask}
 use Rattle.mds_base.specs.declared.attr.Attr.{Attr}
 use Rattle.mds_base.specs.declared.call.Call.{Call}
-use Rattle.mds_base.specs.declared.call.Call.TheVariants.{Create, Mkdir, Remove, Lookup, Setattr, Scan, Grab, Load, Link}
+use Rattle.mds_base.specs.declared.call.Call.TheVariants.{Create, Mkdir, Remove, Lookup, Setattr, Scan, Grab, Load, Link, Seal, Unseal, Kill, Unlink}
 use Rattle.mds_base.specs.declared.reply.Final.{Final}
 use Rattle.mds_base.specs.declared.reply.Final.TheVariants.{CreatedDir, Exists, Removed, Missing, IsDir, Set}
 use Rattle.mds_base.specs.declared.reply.Reply.{Reply}
@@ -17,7 +17,7 @@ use Rattle.mds_base.specs.Entries.{Place, place_cmp, Entries, is_file}
 use Rattle.mds_base.specs.RowKeys.{RowMap}
 use Rattle.mds_base.proofs.Places.{places_total}
 use Rattle.records.specs.declared.msg.Msg.{Msg}
-use Rattle.records.specs.declared.msg.Msg.TheVariants.{Request, Redirect, Answer, Busy, Held, Transfer, Installed}
+use Rattle.records.specs.declared.msg.Msg.TheVariants.{Request, Redirect, Answer, Busy, Held, Page, Closed, Transfer, Installed}
 use Rattle.records.specs.declared.record.Record.{Record}
 use Rattle.records.specs.declared.record.Record.TheVariants.{Served}
 use Rattle.records.specs.Spelling.{IsRecord, IsDirectory, IsChange, MaySay, IsNumbered}
@@ -55,13 +55,17 @@ may_say next (Mkdir dir name) None change = (with (dir, name) None, says (dir, n
 may_say next (Mkdir dir name) (Some attr) change = (with (dir, name) (Some attr), says (dir, name) (Some attr) _ (λ _. Said Exists ≡ Said Exists) refl)
 may_say next (Remove dir name) None change = (with (dir, name) None, says (dir, name) None _ (λ attr. Said Missing ≡ Said (if is_file attr then Removed else IsDir)) refl)
 may_say next (Remove dir name) (Some attr) change = (with (dir, name) (Some attr), says (dir, name) (Some attr) _ (λ other. Said (if is_file attr then Removed else IsDir) ≡ Said (if is_file other then Removed else IsDir)) refl)
-may_say next (Setattr dir name mode size) None change = (with (dir, name) None, says (dir, name) None _ (λ _. Said Missing ≡ Said Set) refl)
-may_say next (Setattr dir name mode size) (Some attr) change = (with (dir, name) (Some attr), says (dir, name) (Some attr) _ (λ _. Said Set ≡ Said Set) refl)
+may_say next (Setattr dir name mode size stamp) None change = (with (dir, name) None, says (dir, name) None _ (λ _. Said Missing ≡ Said Set) refl)
+may_say next (Setattr dir name mode size stamp) (Some attr) change = (with (dir, name) (Some attr), says (dir, name) (Some attr) _ (λ _. Said Set ≡ Said Set) refl)
 may_say next (Lookup dir name) before change = absurd change
 may_say next (Scan dir) before change = absurd change
 may_say next (Grab dir name count) before change = absurd change
 may_say next (Load dir rows) before change = absurd change
 may_say next (Link dir name id) before change = absurd change
+may_say next (Seal dir part epoch) before change = absurd change
+may_say next (Unseal dir part epoch) before change = absurd change
+may_say next (Kill dir epoch) before change = absurd change
+may_say next (Unlink dir name id) before change = absurd change
 
 removed_numbered : (b : Bool) → IsNumbered (cond b Removed IsDir)
 removed_numbered true = tt
@@ -74,13 +78,17 @@ numbered_at next (Mkdir dir name) None change is = is
 numbered_at next (Mkdir dir name) (Some attr) change is = tt
 numbered_at next (Remove dir name) None change is = tt
 numbered_at next (Remove dir name) (Some attr) change is = removed_numbered (is_file attr)
-numbered_at next (Setattr dir name mode size) None change is = tt
-numbered_at next (Setattr dir name mode size) (Some attr) change is = tt
+numbered_at next (Setattr dir name mode size stamp) None change is = tt
+numbered_at next (Setattr dir name mode size stamp) (Some attr) change is = tt
 numbered_at next (Lookup dir name) before change is = absurd change
 numbered_at next (Scan dir) before change is = absurd change
 numbered_at next (Grab dir name count) before change is = absurd change
 numbered_at next (Load dir rows) before change is = absurd change
 numbered_at next (Link dir name id) before change is = absurd change
+numbered_at next (Seal dir part epoch) before change is = absurd change
+numbered_at next (Unseal dir part epoch) before change is = absurd change
+numbered_at next (Kill dir epoch) before change is = absurd change
+numbered_at next (Unlink dir name id) before change is = absurd change
 
 -- ---- a change that is carried out is recorded by a record that may follow
 
@@ -89,12 +97,16 @@ a_change : (call : Call) (dir : ℕ) (name : List ℕ) → IsWellMade call → a
 a_change (Create d n) dir name made asked = made
 a_change (Mkdir d n) dir name made asked = made
 a_change (Remove d n) dir name made asked = made
-a_change (Setattr d n mode size) dir name made asked = made
+a_change (Setattr d n mode size stamp) dir name made asked = made
 a_change (Lookup d n) dir name made asked = cc
 a_change (Scan d) dir name made asked = cc
 a_change (Grab d n count) dir name made asked = cc
 a_change (Load d rows) dir name made asked = cc
 a_change (Link d n id) dir name made asked = cc
+a_change (Seal d part epoch) dir name made asked = cc
+a_change (Unseal d part epoch) dir name made asked = cc
+a_change (Kill d epoch) dir name made asked = cc
+a_change (Unlink d n id) dir name made asked = cc
 
 number_fits : (node : NodeV) → has_numbers node ≡ true → node.server < 32 → node.next < 2 ^ 48
 number_fits node numbers few = let enough = leb-true (node.next + 2 ^ 18) (end_of_numbers node.server) numbers in omega arith
@@ -161,10 +173,12 @@ served_records store ask now (Carries said) is asked numbers few from_two = carr
 pub serve_records : (store : StoreV) (msg : Msg) (now : ℕ) → IsMessage msg → has_numbers store.node ≡ true → store.node.server < 32 → 2 ≤ store.node.next → AreServed store (serve store msg now).records
 serve_records store (Request to ask cursor) now made numbers few from_two = served_records store ask now (outcome store ask now) refl made numbers few from_two
 serve_records store (Redirect client seq attempt dir bits) now made numbers few from_two = no_records store
-serve_records store (Transfer to dir part depth bits sessions top rows) now made numbers few from_two = no_records store
+serve_records store (Transfer to dir part depth index count bits sessions top rows) now made numbers few from_two = no_records store
 serve_records store (Answer client seq attempt reply) now made numbers few from_two = no_records store
 serve_records store (Busy client seq attempt part depth) now made numbers few from_two = no_records store
 serve_records store (Held client seq attempt until) now made numbers few from_two = no_records store
+serve_records store (Page client seq attempt rows next) now made numbers few from_two = no_records store
+serve_records store (Closed client seq attempt part epoch) now made numbers few from_two = no_records store
 serve_records store (Installed to dir part child) now made numbers few from_two = no_records store
 
 -- ---- the node stays its server's

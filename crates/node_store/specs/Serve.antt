@@ -2,7 +2,7 @@
 use Rattle.std.specs.Prelude.{◌≡◌, ℕ, ◌<◌, ◌≤◌, ◌^◌, List, [], ◌∷◌, Option, Some, Result, OnOk, IsErrOf, ◌⊎◌}
 use Rattle.mds_base.specs.declared.ask.Ask.{Ask}
 use Rattle.mds_base.specs.declared.call.Call.{Call}
-use Rattle.mds_base.specs.declared.call.Call.TheVariants.{Lookup, Scan, Grab, Load, Link}
+use Rattle.mds_base.specs.declared.call.Call.TheVariants.{Lookup, Scan, Grab, Load, Link, Seal, Unseal, Kill, Unlink}
 use Rattle.mds_base.specs.declared.store_fault.StoreFault.{StoreFault}
 use Rattle.mds_base.specs.declared.store_fault.StoreFault.TheVariants.{Device}
 use Rattle.records.specs.declared.handled.Handled.{Handled}
@@ -23,6 +23,10 @@ IsWellMade (Scan dir) = IsDirectory dir
 IsWellMade (Grab dir name count) = IsDirectory dir
 IsWellMade (Load dir rows) = IsDirectory dir
 IsWellMade (Link dir name id) = IsDirectory dir
+IsWellMade (Seal dir part epoch) = IsDirectory dir
+IsWellMade (Unseal dir part epoch) = IsDirectory dir
+IsWellMade (Kill dir epoch) = IsDirectory dir
+IsWellMade (Unlink dir name id) = IsDirectory dir
 IsWellMade call = IsChange call
 
 -- an ask of a client that is well made

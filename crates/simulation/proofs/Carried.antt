@@ -9,7 +9,7 @@ use Rattle.std.proofs.lemmas.List.{length-append}
 use Rattle.std.proofs.lemmas.Option.{get_or_from_slice_get, slice_get_read}
 use Rattle.std.proofs.lemmas.Bool.{eq-eqb}
 use Rattle.mds_base.specs.declared.call.Call.{Call}
-use Rattle.mds_base.specs.declared.call.Call.TheVariants.{Create, Mkdir, Remove, Lookup, Setattr, Scan, Grab, Load, Link}
+use Rattle.mds_base.specs.declared.call.Call.TheVariants.{Create, Mkdir, Remove, Lookup, Setattr, Scan, Grab, Load, Link, Seal, Unseal, Kill, Unlink}
 use Rattle.mds_base.specs.declared.setup.Setup.{Setup}
 use Rattle.mds_out.specs.Disk.{Image, Contents}
 use Rattle.records.specs.declared.msg.Msg.{Msg}
@@ -289,12 +289,16 @@ pub made_fits : (call : Call) → IsWellMade call → dir_of call < 2 ^ 48
 made_fits (Create dir name) made = made.0.1
 made_fits (Mkdir dir name) made = made.0.1
 made_fits (Remove dir name) made = made.0.1
-made_fits (Setattr dir name mode size) made = made.0.1
+made_fits (Setattr dir name mode size stamp) made = made.0.1
 made_fits (Lookup dir name) made = made.1
 made_fits (Scan dir) made = made.1
 made_fits (Grab dir name count) made = made.1
 made_fits (Load dir rows) made = made.1
 made_fits (Link dir name id) made = made.1
+made_fits (Seal dir part epoch) made = made.1
+made_fits (Unseal dir part epoch) made = made.1
+made_fits (Kill dir epoch) made = made.1
+made_fits (Unlink dir name id) made = made.1
 
 module _ {X : Type 0} (setup : Setup) (now count : ℕ) (stores : List (Store X)) (clients : List ClientV) (sent : List Msg) (r : AreRanges setup now count stores clients sent) where
   pub few_attempts : (k : ℕ) (client : ClientV) (pending : Pending) → slice_get clients k ≡ Some client → client.pending ≡ Some pending → pending.attempt < 2 ^ 31

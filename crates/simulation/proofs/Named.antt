@@ -7,7 +7,7 @@ use Rattle.std.proofs.lemmas.List.{length-append}
 use Rattle.std.proofs.lemmas.List.Folds.{list_any-append}
 use Rattle.std.proofs.lemmas.Bool.{eq-eqb, eqb-true}
 use Rattle.records.specs.declared.msg.Msg.{Msg}
-use Rattle.records.specs.declared.msg.Msg.TheVariants.{Request, Redirect, Answer, Busy, Held, Transfer, Installed}
+use Rattle.records.specs.declared.msg.Msg.TheVariants.{Request, Redirect, Answer, Busy, Held, Page, Closed, Transfer, Installed}
 use Rattle.world.specs.declared.event.Event.{Event}
 use Rattle.world.specs.Events.{is_for_server}
 use Rattle.world.proofs.Grow.{get_last}
@@ -31,12 +31,14 @@ not_named events place none = elim (is_named events place) as (λ b. is_named ev
 
 pub for_server : (s server : ℕ) (msg : Msg) → server_for (Some msg) ≡ Some server → is_for_server s (Some msg) ≡ (server == s)
 for_server s server (Request to ask cursor) e = let h : to ≡ server = cc in ap (λ n. n == s) h
-for_server s server (Transfer to dir part depth bits sessions top rows) e = let h : to ≡ server = cc in ap (λ n. n == s) h
+for_server s server (Transfer to dir part depth index count bits sessions top rows) e = let h : to ≡ server = cc in ap (λ n. n == s) h
 for_server s server (Installed to dir part child) e = let h : to ≡ server = cc in ap (λ n. n == s) h
 for_server s server (Redirect to seq attempt dir bits) e = cc
 for_server s server (Answer to seq attempt reply) e = cc
 for_server s server (Busy to seq attempt part depth) e = cc
 for_server s server (Held to seq attempt until) e = cc
+for_server s server (Page to seq attempt rows next) e = cc
+for_server s server (Closed to seq attempt part epoch) e = cc
 
 pub get_other : {X : Type 0} (xs : List X) (y : X) (k : ℕ) → (k ≡ length xs → ⊥) → slice_get (xs ++ y ∷ []) k ≡ slice_get xs k
 get_other [] y zero apart = absurd (apart refl)

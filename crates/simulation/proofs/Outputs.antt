@@ -5,12 +5,12 @@ use Rattle.std.specs.List.{slice_get}
 use Rattle.std.proofs.lemmas.List.{append-nil, map-append}
 use Rattle.mds_base.specs.declared.ask.Ask.{Ask}
 use Rattle.mds_base.specs.declared.call.Call.{Call}
-use Rattle.mds_base.specs.declared.call.Call.TheVariants.{Create, Mkdir, Remove, Lookup, Setattr, Scan, Grab, Load, Link}
+use Rattle.mds_base.specs.declared.call.Call.TheVariants.{Create, Mkdir, Remove, Lookup, Setattr, Scan, Grab, Load, Link, Seal, Unseal, Kill, Unlink}
 use Rattle.mds_base.specs.declared.reply.Final.{Final}
 use Rattle.mds_base.specs.declared.reply.Reply.{Reply}
 use Rattle.mds_base.specs.declared.reply.Reply.TheVariants.{Said}
 use Rattle.records.specs.declared.msg.Msg.{Msg}
-use Rattle.records.specs.declared.msg.Msg.TheVariants.{Request, Redirect, Answer, Busy, Held, Transfer, Installed}
+use Rattle.records.specs.declared.msg.Msg.TheVariants.{Request, Redirect, Answer, Busy, Held, Page, Closed, Transfer, Installed}
 use Rattle.sessions.specs.declared.kept.Judged.{Judged}
 use Rattle.sessions.specs.declared.kept.Judged.TheVariants.{New, Again, Old}
 use Rattle.node_core.specs.Nodes.{StoreV}
@@ -41,7 +41,9 @@ for_none s store (Redirect to seq attempt dir bits) now k = refl
 for_none s store (Answer to seq attempt reply) now k = refl
 for_none s store (Busy to seq attempt part depth) now k = refl
 for_none s store (Held to seq attempt until) now k = refl
-for_none s store (Transfer to dir part depth bits sessions top rows) now k = refl
+for_none s store (Page to seq attempt rows next) now k = refl
+for_none s store (Closed to seq attempt part epoch) now k = refl
+for_none s store (Transfer to dir part depth index count bits sessions top rows) now k = refl
 for_none s store (Installed to dir part child) now k = refl
 
 -- a reply is for the client that asked
@@ -63,7 +65,9 @@ first_for client store (Redirect to seq attempt dir bits) now e = tt
 first_for client store (Answer to seq attempt reply) now e = tt
 first_for client store (Busy to seq attempt part depth) now e = tt
 first_for client store (Held to seq attempt until) now e = tt
-first_for client store (Transfer to dir part depth bits sessions top rows) now e = tt
+first_for client store (Page to seq attempt rows next) now e = tt
+first_for client store (Closed to seq attempt part epoch) now e = tt
+first_for client store (Transfer to dir part depth index count bits sessions top rows) now e = tt
 first_for client store (Installed to dir part child) now e = tt
 
 -- the entries that the world notes are those that the program makes
@@ -108,12 +112,16 @@ call_makes : (h : History) (store : StoreV) (client seq attempt : ℕ) (call : C
 call_makes h store client seq attempt (Create dir name) now place = change_makes h store (ask_with client seq attempt (Create dir name)) place (λ reply. refl) _ _ _
 call_makes h store client seq attempt (Mkdir dir name) now place = change_makes h store (ask_with client seq attempt (Mkdir dir name)) place (λ reply. refl) _ _ _
 call_makes h store client seq attempt (Remove dir name) now place = change_makes h store (ask_with client seq attempt (Remove dir name)) place (λ reply. refl) _ _ _
-call_makes h store client seq attempt (Setattr dir name mode size) now place = change_makes h store (ask_with client seq attempt (Setattr dir name mode size)) place (λ reply. refl) _ _ _
+call_makes h store client seq attempt (Setattr dir name mode size stamp) now place = change_makes h store (ask_with client seq attempt (Setattr dir name mode size stamp)) place (λ reply. refl) _ _ _
 call_makes h store client seq attempt (Lookup dir name) now place = look_makes h store (ask_with client seq attempt (Lookup dir name)) place _ _ _ refl (map-append made_of h.made _)
 call_makes h store client seq attempt (Scan dir) now place = silent_makes h store (ask_with client seq attempt (Scan dir)) place
 call_makes h store client seq attempt (Grab dir name count) now place = silent_makes h store (ask_with client seq attempt (Grab dir name count)) place
 call_makes h store client seq attempt (Load dir rows) now place = silent_makes h store (ask_with client seq attempt (Load dir rows)) place
 call_makes h store client seq attempt (Link dir name id) now place = silent_makes h store (ask_with client seq attempt (Link dir name id)) place
+call_makes h store client seq attempt (Seal dir part epoch) now place = silent_makes h store (ask_with client seq attempt (Seal dir part epoch)) place
+call_makes h store client seq attempt (Unseal dir part epoch) now place = silent_makes h store (ask_with client seq attempt (Unseal dir part epoch)) place
+call_makes h store client seq attempt (Kill dir epoch) now place = silent_makes h store (ask_with client seq attempt (Kill dir epoch)) place
+call_makes h store client seq attempt (Unlink dir name id) now place = silent_makes h store (ask_with client seq attempt (Unlink dir name id)) place
 
 pub serve_makes : (h : History) (store : StoreV) (msg : Msg) (now place : ℕ)
     → list_map made_of (served_one h store msg now place).made ≡ with_one (list_map made_of h.made ++ changes_of (serve store msg now).records) (lookup_of msg (serve store msg now).outputs place)
@@ -122,7 +130,9 @@ serve_makes h store (Redirect to seq attempt dir bits) now place = sym (append-n
 serve_makes h store (Answer to seq attempt reply) now place = sym (append-nil _)
 serve_makes h store (Busy to seq attempt part depth) now place = sym (append-nil _)
 serve_makes h store (Held to seq attempt until) now place = sym (append-nil _)
-serve_makes h store (Transfer to dir part depth bits sessions top rows) now place = sym (append-nil _)
+serve_makes h store (Page to seq attempt rows next) now place = sym (append-nil _)
+serve_makes h store (Closed to seq attempt part epoch) now place = sym (append-nil _)
+serve_makes h store (Transfer to dir part depth index count bits sessions top rows) now place = sym (append-nil _)
 serve_makes h store (Installed to dir part child) now place = sym (append-nil _)
 
 as_answered : (h : History) (ask : Ask) (place : ℕ) (o : Outcome) → (past.served_as h ask place o).answered ≡ h.answered
@@ -137,5 +147,7 @@ serve_answered h store (Redirect to seq attempt dir bits) now place = refl
 serve_answered h store (Answer to seq attempt reply) now place = refl
 serve_answered h store (Busy to seq attempt part depth) now place = refl
 serve_answered h store (Held to seq attempt until) now place = refl
-serve_answered h store (Transfer to dir part depth bits sessions top rows) now place = refl
+serve_answered h store (Page to seq attempt rows next) now place = refl
+serve_answered h store (Closed to seq attempt part epoch) now place = refl
+serve_answered h store (Transfer to dir part depth index count bits sessions top rows) now place = refl
 serve_answered h store (Installed to dir part child) now place = refl

@@ -7,7 +7,7 @@ use Rattle.mds_base.specs.declared.call.Call.{Call}
 use Rattle.mds_base.specs.declared.reply.Reply.{Reply}
 use Rattle.mds_base.specs.declared.setup.Setup.{Setup}
 use Rattle.records.specs.declared.msg.Msg.{Msg}
-use Rattle.records.specs.declared.msg.Msg.TheVariants.{Request, Redirect, Answer, Busy, Held, Transfer, Installed}
+use Rattle.records.specs.declared.msg.Msg.TheVariants.{Request, Redirect, Answer, Busy, Held, Page, Closed, Transfer, Installed}
 use Rattle.bitmap.specs.Bits.{Bits}
 use Rattle.client_core.specs.declared.client.Pending.{Pending}
 use Rattle.client_core.specs.Clients.{ClientV, target_of, issued, issue_msg, resent, resend_msg, merged, request_of}
@@ -71,8 +71,10 @@ module _ (setup : Setup) (count k : ℕ) (client : ClientV) (s : IsSeat setup co
   pending_seat pending (Redirect to seq attempt dir bits) busy = redirected_seat pending dir bits _ busy
   pending_seat pending (Busy to seq attempt part depth) busy = busy_seat part _
   pending_seat pending (Held to seq attempt until) busy = held_seat until _
+  pending_seat pending (Page to seq attempt rows next) busy = seat_more setup count k client s
+  pending_seat pending (Closed to seq attempt part epoch) busy = seat_more setup count k client s
   pending_seat pending (Request to ask cursor) busy = seat_more setup count k client s
-  pending_seat pending (Transfer to dir part depth bits sessions top rows) busy = seat_more setup count k client s
+  pending_seat pending (Transfer to dir part depth index count bits sessions top rows) busy = seat_more setup count k client s
   pending_seat pending (Installed to dir part child) busy = seat_more setup count k client s
 
   seat_at_pending : (pending : Option Pending) (msg : Msg) → client.pending ≡ pending → IsSeat setup (count + 1) k (take_at client pending msg).client

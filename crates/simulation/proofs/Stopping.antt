@@ -4,7 +4,7 @@ use Rattle.std.specs.Prelude.{slice_set}
 use Rattle.std.specs.List.{slice_get}
 use Rattle.mds_out.specs.Disk.{Image, Contents}
 use Rattle.records.specs.declared.msg.Msg.{Msg}
-use Rattle.records.specs.declared.msg.Msg.TheVariants.{Request, Redirect, Answer, Busy, Held, Transfer, Installed}
+use Rattle.records.specs.declared.msg.Msg.TheVariants.{Request, Redirect, Answer, Busy, Held, Page, Closed, Transfer, Installed}
 use Rattle.node_core.specs.Nodes.{StoreV}
 use Rattle.node_store.specs.Store.{Store, IsDownAt}
 use Rattle.world.specs.declared.event.Event.{Event}
@@ -39,12 +39,14 @@ missed servers to server state e is down = ap (λ o. events.is_there o && not (e
 
 misses_there : (servers : List ServerState) (msg : Msg) (server : ℕ) (state : ServerState) → server_for (Some msg) ≡ Some server → slice_get servers server ≡ Some state → state.up ≡ false → misses servers (Some msg) ≡ true
 misses_there servers (Request to ask cursor) server state meant is down = missed servers to server state (cc) is down
-misses_there servers (Transfer to dir part depth bits sessions top rows) server state meant is down = missed servers to server state (cc) is down
+misses_there servers (Transfer to dir part depth index count bits sessions top rows) server state meant is down = missed servers to server state (cc) is down
 misses_there servers (Installed to dir part child) server state meant is down = missed servers to server state (cc) is down
 misses_there servers (Redirect to seq attempt dir bits) server state meant is down = cc
 misses_there servers (Answer to seq attempt reply) server state meant is down = cc
 misses_there servers (Busy to seq attempt part depth) server state meant is down = cc
 misses_there servers (Held to seq attempt until) server state meant is down = cc
+misses_there servers (Page to seq attempt rows next) server state meant is down = cc
+misses_there servers (Closed to seq attempt part epoch) server state meant is down = cc
 
 module _ {X : Type 0} (seen : X → Contents) (images : X → Image → Type 0) (old : SimulationV X) where
   pub miss_happens : (place server : ℕ) (store : Store X) (msg : Msg) → slice_get old.sent place ≡ Some msg → server_for (Some msg) ≡ Some server → slice_get old.stores server ≡ Some store → store.up ≡ None

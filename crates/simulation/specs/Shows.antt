@@ -7,7 +7,8 @@ use Rattle.std.specs.declared.cmp.Ordering.{Ordering}
 use Rattle.std.specs.Ordering.{nat_cmp, ordering_then}
 use Rattle.mds_base.specs.declared.setup.Setup.{Setup}
 use Rattle.records.specs.declared.msg.Msg.{Msg}
-use Rattle.records.specs.declared.msg.Msg.TheVariants.{Request, Transfer, Installed}
+use Rattle.records.specs.declared.msg.Msg.TheVariants.{Request}
+use Rattle.records.specs.Messages.{server_of_msg}
 use Rattle.mds_out.specs.Disk.{Image, Contents}
 use Rattle.client_core.specs.Clients.{ClientV}
 use Rattle.node_core.specs.Nodes.{StoreV, has_numbers}
@@ -121,10 +122,8 @@ is_busy (Some client) = is_some client.pending
 
 -- the server of a message, where it is for one
 abbrev pub server_for : Option Msg → Option ℕ
-server_for (Some (Request server ask cursor)) = Some server
-server_for (Some (Transfer server dir part depth bits sessions top rows)) = Some server
-server_for (Some (Installed server dir part child)) = Some server
-server_for msg = None
+server_for None = None
+server_for (Some msg) = server_of_msg msg
 
 -- whether a message is a request of a client
 abbrev pub is_request_of : ℕ → Option Msg → Bool

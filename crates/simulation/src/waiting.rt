@@ -84,6 +84,8 @@ pub(crate) fn is_to(msg: &Msg, client: u32) -> bool
         Msg::Answer { client: to, .. } => *to == client,
         Msg::Busy { client: to, .. } => *to == client,
         Msg::Held { client: to, .. } => *to == client,
+        Msg::Page { client: to, .. } => *to == client,
+        Msg::Closed { client: to, .. } => *to == client,
         _ => false,
     }
 }

@@ -9,7 +9,7 @@ use Rattle.mds_base.specs.declared.call.Call.{Call}
 use Rattle.mds_base.specs.declared.reply.Reply.{Reply}
 use Rattle.mds_base.proofs.Maps.{insert_apart}
 use Rattle.records.specs.declared.msg.Msg.{Msg}
-use Rattle.records.specs.declared.msg.Msg.TheVariants.{Request, Redirect, Answer, Busy, Held, Transfer, Installed}
+use Rattle.records.specs.declared.msg.Msg.TheVariants.{Request, Redirect, Answer, Busy, Held, Page, Closed, Transfer, Installed}
 use Rattle.bitmap.specs.Bits.{Bits, has}
 use Rattle.node_core.proofs.Views.{insert_here}
 use Rattle.client_core.specs.declared.client.Pending.{Pending}
@@ -61,7 +61,7 @@ module _ (t : Trace) (inv : Inv t) (k : ℕ) (seat new : ClientState) (is : slic
           let now : new.client.pending ≡ Some pending = subst (λ (y : ClientState). y.client.pending ≡ Some pending) (sym h.1) busy in
           let b = stays pending now in
           let q : new.client.seq ≡ x.client.seq = ap (λ (y : ClientState). y.client.seq) h.1 in
-          among_map (inv.calls.open_issued k seat b.0 is b.1) (λ l i n. record { client' = n.client' ∙ ap suc (sym h.0); seq' = n.seq' ∙ sym same ∙ q; call' = n.call' ∙ b.2 })
+          among_map (inv.calls.open_issued k seat b.0 is b.1) (λ l i n. record { client' = n.client' ∙ ap suc (sym h.0); seq' = n.seq' ∙ sym same ∙ q; call' = n.call' ∙ b.2; served = n.served })
       | inr h ↦ inv.calls.open_issued j x pending h.1 busy
     ];
     open_unanswered = λ j x pending at busy. elim (get_set t.world.clients k new j x at) [
@@ -138,13 +138,15 @@ merge_keeps t inv k seat dir bits may =
 request_more : (count : ℕ) (issued more : List IssuedV) (m : Msg) → RequestTrue count issued m → RequestTrue count (issued ++ more) m
 request_more count issued more (Request to ask cursor) r = record { issue = among_more more r.issue; part = r.part; kept = r.kept; there = r.there }
 request_more count issued more (Redirect client seq attempt dir bits) r = tt
-request_more count issued more (Transfer to dir part depth bits sessions top rows) r = tt
+request_more count issued more (Transfer to dir part depth index count bits sessions top rows) r = tt
 request_more count issued more (Answer client seq attempt reply) r = tt
 request_more count issued more (Busy client seq attempt part depth) r = tt
 request_more count issued more (Held client seq attempt until) r = tt
+request_more count issued more (Page client seq attempt rows next) r = tt
+request_more count issued more (Closed client seq attempt part epoch) r = tt
 request_more count issued more (Installed to dir part child) r = tt
 
-module _ (t : Trace) (inv : Inv t) (k : ℕ) (seat : ClientState) (call : Call) (may : MayOpen t k seat) where
+module _ (t : Trace) (inv : Inv t) (k : ℕ) (seat : ClientState) (call : Call) (may : MayOpen t k seat call) where
   abbrev opened : ClientState
   opened = record { client = issued seat.client call; quit = seat.quit }
 
@@ -175,7 +177,7 @@ module _ (t : Trace) (inv : Inv t) (k : ℕ) (seat : ClientState) (call : Call) 
       | inl h ↦
           let now : opened.client.pending ≡ Some pending = subst (λ (y : ClientState). y.client.pending ≡ Some pending) (sym h.1) busy in
           let same : call ≡ pending.call = cc in
-          among_last t.past.issued issue (record { client' = ap suc (sym h.0); seq' = ap (λ (y : ClientState). y.client.seq) h.1; call' = same })
+          among_last t.past.issued issue (record { client' = ap suc (sym h.0); seq' = ap (λ (y : ClientState). y.client.seq) h.1; call' = same; served = may.served })
       | inr h ↦ among_more (issue ∷ []) (inv.calls.open_issued j x pending h.1 busy)
     ];
     open_unanswered = λ j x pending at busy. elim (get_set t.world.clients k opened j x at) [

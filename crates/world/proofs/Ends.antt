@@ -5,7 +5,7 @@ use Rattle.std.specs.List.{slice_get}
 use Rattle.std.proofs.lemmas.List.{append-nil}
 use Rattle.std.proofs.lemmas.Bool.{and_from, or_left, or_right, eq-eqb}
 use Rattle.records.specs.declared.record.Record.{Record}
-use Rattle.records.specs.declared.record.Record.TheVariants.{Head, Opened, Served}
+use Rattle.records.specs.declared.record.Record.TheVariants.{Head, Opened, Begin, Install, End, Served}
 use Rattle.node_core.specs.Nodes.{StoreV}
 use Rattle.node_core.specs.Serving.{ServedV, may_follow, replayed, replayed_all, restarted}
 use Rattle.world.specs.declared.event.Event.{Event}
@@ -72,6 +72,9 @@ replayed_grows : (h : History) (item : Record) (b : Bool) → GrowsTo h (past.re
 replayed_grows h (Served client seq part call said) true = record { start = refl; more = _; made = refl }
 replayed_grows h (Served client seq part call said) false = stays_so h
 replayed_grows h Opened b = stays_so h
+replayed_grows h (Begin dir part depth) b = stays_so h
+replayed_grows h (Install dir part depth bitmap sessions rows) b = stays_so h
+replayed_grows h (End dir part depth) b = stays_so h
 replayed_grows h (Head format servers server threshold) b = stays_so h
 
 replays_grow : (items : List Record) (h : History) (store : StoreV) → GrowsTo h (past.replayed_all h store items)

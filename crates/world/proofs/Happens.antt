@@ -10,7 +10,7 @@ use Rattle.mds_base.specs.declared.ask.Ask.{Ask}
 use Rattle.mds_base.specs.declared.call.Call.{Call}
 use Rattle.mds_base.specs.declared.reply.Reply.{Reply}
 use Rattle.records.specs.declared.msg.Msg.{Msg}
-use Rattle.records.specs.declared.msg.Msg.TheVariants.{Request, Redirect, Answer, Busy, Held, Transfer, Installed}
+use Rattle.records.specs.declared.msg.Msg.TheVariants.{Request, Redirect, Answer, Busy, Held, Page, Closed, Transfer, Installed}
 use Rattle.bitmap.specs.Bits.{Bits, has}
 use Rattle.records.specs.declared.record.Record.{Record}
 use Rattle.placement.specs.Placement.{server_of}
@@ -35,7 +35,7 @@ use Rattle.world.specs.declared.state.ClientState.{ClientState}
 use Rattle.world.specs.Lists.{Among}
 use Rattle.world.specs.Worlds.{store_of}
 use Rattle.world.specs.Events as events
-use Rattle.world.specs.Events.{enabled, step, can_issue, can_resend, can_take, can_give_up, can_serve, can_stop, can_restart, is_for_server, is_for_client, is_known, set_server, set_client, say, with_client, onto_msgs, after_serve_of}
+use Rattle.world.specs.Events.{enabled, step, is_call, can_issue, can_resend, can_take, can_give_up, can_serve, can_stop, can_restart, is_for_server, is_for_client, is_known, set_server, set_client, say, with_client, onto_msgs, after_serve_of}
 use Rattle.world.specs.Histories as past
 use Rattle.world.specs.Histories.{History, Trace, happens, counted, run}
 use Rattle.world.proofs.Grow.{set_here, set_twice, set_same, among_last, among_map}
@@ -67,16 +67,17 @@ issue_keeps : (t : Trace) → Inv t → (k : ℕ) (call : Call) (o : Option Clie
 issue_keeps t inv k call None is can = cc
 issue_keeps t inv k call (Some seat) is can =
     let idle : seat.client.pending ≡ None = no_pending seat.client.pending (and_parts (not seat.quit) (not (events.is_open seat.client.pending)) (and_parts _ _ can).0).1 in
+    let served : is_call call ≡ true = (and_parts (nat_lt seat.client.seq (2 ^ 63)) (is_call call) (and_parts _ _ can).1).1 in
     let t1 : Trace = open_at t k seat call in
-    let inv1 : Inv t1 = open_keeps t inv k seat call (record { is = is; idle = idle }) in
+    let inv1 : Inv t1 = open_keeps t inv k seat call (record { is = is; idle = idle; served = served }) in
     let sizes = inv.sizes.clients_are.at k seat is in
     let ask : Ask = record { client = seat.client.number; seq = seat.client.seq + 1; attempt = 1; call = call } in
     let issue : Among t1.past.issued (λ j i. IsIssueOf i seat.client.number (seat.client.seq + 1) call) =
-    among_last t.past.issued (record { client = suc k; seq = seat.client.seq + 1; call = call; at = t.past.count }) (record { client' = sym sizes.number; seq' = refl; call' = refl }) in
+    among_last t.past.issued (record { client = suc k; seq = seat.client.seq + 1; call = call; at = t.past.count }) (record { client' = sym sizes.number; seq' = refl; call' = refl; served = served }) in
     let inv2 = send_keeps t1 inv1 _ ask (cursor_of call) (record {
       issue = issue;
       part = target_of seat.client call;
-      kept = target_kept seat.client call (inv.bits.bits_kept.at k seat is);
+      kept = target_kept seat.client call served (inv.bits.bits_kept.at k seat is);
       there = ap (λ x. server_of (dir_of call) (target_of seat.client call) x.servers) sizes.setup';
     }) in
     count_keeps (with_msg t1 (issue_msg seat.client call)) inv2
@@ -90,11 +91,11 @@ resend_of t inv k seat is (Some pending) busy open_now =
     let sizes = inv.sizes.clients_are.at k seat is in
     let ask : Ask = record { client = seat.client.number; seq = seat.client.seq; attempt = pending.attempt + 1; call = pending.call } in
     let issue : Among t.past.issued (λ j i. IsIssueOf i seat.client.number seat.client.seq pending.call) =
-    among_map (inv.calls.open_issued k seat pending is busy) (λ j i h. record { client' = h.client' ∙ sym sizes.number; seq' = h.seq'; call' = h.call' }) in
+    among_map (inv.calls.open_issued k seat pending is busy) (λ j i h. record { client' = h.client' ∙ sym sizes.number; seq' = h.seq'; call' = h.call'; served = h.served }) in
     let inv2 = send_keeps t1 inv1 _ ask (cursor_of pending.call) (record {
       issue = issue;
       part = target_of seat.client pending.call;
-      kept = target_kept seat.client pending.call (inv.bits.bits_kept.at k seat is);
+      kept = target_kept seat.client pending.call (sym (ap is_call issue.good.call') ∙ issue.good.served) (inv.bits.bits_kept.at k seat is);
       there = ap (λ x. server_of (dir_of pending.call) (target_of seat.client pending.call) x.servers) sizes.setup';
     }) in
     count_keeps (with_msg t1 (resend_msg seat.client pending)) inv2
@@ -167,7 +168,9 @@ module _ (t : Trace) (inv : Inv t) (k : ℕ) (seat : ClientState) (is : slice_ge
   take_of (Held to seq attempt until) at is_for = held_taken until (is_present seat.client pending seq attempt)
   take_of (Redirect to seq attempt dir bits) at is_for =
       redirect_taken dir bits (inv.bits.sent_kept.at place (Redirect to seq attempt dir bits) at) (is_present seat.client pending seq attempt && (dir == dir_of pending.call))
-  take_of (Transfer to dir part depth bits sessions top rows) at is_for = cc
+  take_of (Page to seq attempt rows next) at is_for = stays t inv k seat is
+  take_of (Closed to seq attempt part epoch) at is_for = stays t inv k seat is
+  take_of (Transfer to dir part depth index count bits sessions top rows) at is_for = cc
   take_of (Request to ask cursor) at is_for = cc
   take_of (Installed to dir part child) at is_for = cc
 
@@ -230,8 +233,8 @@ serve_msg : (t : Trace) → Inv t → (s : ℕ) (state : ServerState) → slice_
     → (m : Option Msg) → slice_get t.world.sent place ≡ m → is_for_server s m ≡ true → Inv (after_serving t s state how (onto_msgs m []))
 serve_msg t inv s state is up numbers place ends.Done (Some (Request to ask cursor)) at is_for = request_keeps t inv s state is up numbers to ask cursor place at ends.Done
 serve_msg t inv s state is up numbers place ends.Stop (Some (Request to ask cursor)) at is_for = request_keeps t inv s state is up numbers to ask cursor place at ends.Stop
-serve_msg t inv s state is up numbers place ends.Done (Some (Transfer to dir part depth bits sessions top rows)) at is_for = idle_keeps t inv s state is
-serve_msg t inv s state is up numbers place ends.Stop (Some (Transfer to dir part depth bits sessions top rows)) at is_for =
+serve_msg t inv s state is up numbers place ends.Done (Some (Transfer to dir part depth index count bits sessions top rows)) at is_for = idle_keeps t inv s state is
+serve_msg t inv s state is up numbers place ends.Stop (Some (Transfer to dir part depth index count bits sessions top rows)) at is_for =
     count_keeps (with_server t s (record { node = state.node; rows = state.rows; up = false; doubt = [] })) (down_keeps t inv s state [] (record { is = is; follows = tt }))
 serve_msg t inv s state is up numbers place ends.Done (Some (Installed to dir part child)) at is_for = idle_keeps t inv s state is
 serve_msg t inv s state is up numbers place ends.Stop (Some (Installed to dir part child)) at is_for =
@@ -240,6 +243,8 @@ serve_msg t inv s state is up numbers place how (Some (Redirect client seq attem
 serve_msg t inv s state is up numbers place how (Some (Answer client seq attempt reply)) at is_for = cc
 serve_msg t inv s state is up numbers place how (Some (Busy client seq attempt part depth)) at is_for = cc
 serve_msg t inv s state is up numbers place how (Some (Held client seq attempt until)) at is_for = cc
+serve_msg t inv s state is up numbers place how (Some (Page client seq attempt rows next)) at is_for = cc
+serve_msg t inv s state is up numbers place how (Some (Closed client seq attempt part epoch)) at is_for = cc
 serve_msg t inv s state is up numbers place how None at is_for = cc
 
 pub two_places : (n : ℕ) → (suc (suc n) == 1) ≡ true → ⊥

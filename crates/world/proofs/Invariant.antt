@@ -29,7 +29,7 @@ use Rattle.world.specs.declared.state.ServerState.{ServerState}
 use Rattle.world.specs.declared.state.ClientState.{ClientState}
 use Rattle.world.specs.Lists.{Each, Among, OnceBy}
 use Rattle.world.specs.Worlds.{store_of}
-use Rattle.world.specs.Events.{seat_at}
+use Rattle.world.specs.Events.{is_call, seat_at}
 use Rattle.world.specs.Histories.{MadeV, IssuedV, AnsweredV, Trace, Kind, Change, Looked, IsOfIssue, IsAnswerOf, entries_of}
 
 -- What clauses read
@@ -89,11 +89,12 @@ pub record IsNumbered (clients : List ClientState) (count : ℕ) (i : IssuedV) :
   pub below : i.seq ≤ seq_in clients i.client
   pub now : i.at ≤ count
 
--- an issue of this call of this client
+-- an issue of this call of this client; only calls that are served are issued
 pub record IsIssueOf (i : IssuedV) (client seq : ℕ) (call : Call) : Type 0 where
   pub client' : i.client ≡ client
   pub seq' : i.seq ≡ seq
   pub call' : i.call ≡ call
+  pub served : is_call i.call ≡ true
 
 pub record IsSameIssue (a b : IssuedV) : Type 0 where
   pub client : a.client ≡ b.client

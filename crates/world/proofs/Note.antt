@@ -9,7 +9,7 @@ use Rattle.mds_base.specs.Entries.{Place}
 use Rattle.mds_base.specs.PlainRules.{after, edit_of}
 use Rattle.mds_base.proofs.Places.{places_total, exact_places, edited_apart}
 use Rattle.records.specs.declared.msg.Msg.{Msg}
-use Rattle.records.specs.declared.msg.Msg.TheVariants.{Request, Redirect, Answer, Busy, Held, Transfer, Installed}
+use Rattle.records.specs.declared.msg.Msg.TheVariants.{Request, Redirect, Answer, Busy, Held, Page, Closed, Transfer, Installed}
 use Rattle.sessions.specs.declared.kept.Kept.{Kept}
 use Rattle.sessions.specs.Kept.{seq_of}
 use Rattle.node_core.specs.Nodes.{StoreV, PartKey, server_for, session_in, row_in, noted_in}
@@ -29,12 +29,14 @@ use Rattle.world.proofs.Invariant.{Inv, RowsKept, SessionsKept, MayCarry, AsksFo
 
 -- the issue of which a request tells
 pub told_issue : (count : ℕ) (issued : List IssuedV) (client seq : ℕ) (call : Call) (m : Msg) → AsksFor client seq call m → RequestTrue count issued m → Among issued (λ j i. IsIssueOf i client seq call)
-told_issue count issued client seq call (Request to ask cursor) a r = among_map r.issue (λ j i h. record { client' = h.client' ∙ a.client'; seq' = h.seq' ∙ a.seq'; call' = h.call' ∙ a.call' })
+told_issue count issued client seq call (Request to ask cursor) a r = among_map r.issue (λ j i h. record { client' = h.client' ∙ a.client'; seq' = h.seq' ∙ a.seq'; call' = h.call' ∙ a.call'; served = h.served })
 told_issue count issued client seq call (Redirect c q attempt d bits) a r = absurd a
-told_issue count issued client seq call (Transfer to d part depth bits sessions top rows) a r = absurd a
+told_issue count issued client seq call (Transfer to d part depth index count bits sessions top rows) a r = absurd a
 told_issue count issued client seq call (Answer c q attempt reply) a r = absurd a
 told_issue count issued client seq call (Busy c q attempt part depth) a r = absurd a
 told_issue count issued client seq call (Held c q attempt until) a r = absurd a
+told_issue count issued client seq call (Page c q attempt rows next) a r = absurd a
+told_issue count issued client seq call (Closed c q attempt part epoch) a r = absurd a
 told_issue count issued client seq call (Installed to d part child) a r = absurd a
 
 abbrev said_or : Final → Option Kept → Final

@@ -10,7 +10,7 @@ use Rattle.mds_base.specs.declared.reply.Reply.TheVariants.{Said}
 use Rattle.mds_base.specs.PlainRules.{Allows, after, given_by}
 use Rattle.mds_base.specs.History.{IsLegal, map_after, given}
 use Rattle.records.specs.declared.msg.Msg.{Msg}
-use Rattle.records.specs.declared.msg.Msg.TheVariants.{Request, Redirect, Answer, Busy, Held, Transfer, Installed}
+use Rattle.records.specs.declared.msg.Msg.TheVariants.{Request, Redirect, Answer, Busy, Held, Page, Closed, Transfer, Installed}
 use Rattle.records.specs.declared.record.Record.{Record}
 use Rattle.node_core.specs.Nodes.{StoreV, row_in, end_of_numbers}
 use Rattle.node_core.specs.Rules.{said_in, said_of}
@@ -33,10 +33,12 @@ use Rattle.world.proofs.Note.{issue, is_new, was, before, rows_note, sessions_no
 pub answer_more : (made more : List MadeV) (k : ℕ) (m : Msg) → AnswerTrue made k m → AnswerTrue (made ++ more) k m
 answer_more made more k (Answer client seq attempt reply) a = among_more more a
 answer_more made more k (Redirect client seq attempt dir bits) a = tt
-answer_more made more k (Transfer to dir part depth bits sessions top rows) a = tt
+answer_more made more k (Transfer to dir part depth index count bits sessions top rows) a = tt
 answer_more made more k (Request to ask cursor) a = tt
 answer_more made more k (Busy client seq attempt part depth) a = tt
 answer_more made more k (Held client seq attempt until) a = tt
+answer_more made more k (Page client seq attempt rows next) a = tt
+answer_more made more k (Closed client seq attempt part epoch) a = tt
 answer_more made more k (Installed to dir part child) a = tt
 
 pub all_map : {X : Type 0} (P Q : X → Type 0) (xs : List X) → ((x : X) → P x → Q x) → AllByRecursion P xs → AllByRecursion Q xs

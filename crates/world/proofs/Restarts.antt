@@ -3,7 +3,7 @@ use Rattle.std.proofs.Common.{◌≡◌, sym, ap, subst, refl, ℕ, Bool, true, 
 use Rattle.std.specs.Prelude.{slice_set}
 use Rattle.std.specs.List.{slice_get}
 use Rattle.records.specs.declared.record.Record.{Record}
-use Rattle.records.specs.declared.record.Record.TheVariants.{Head, Opened, Served}
+use Rattle.records.specs.declared.record.Record.TheVariants.{Head, Opened, Begin, Install, End, Served}
 use Rattle.node_core.specs.Nodes.{StoreV}
 use Rattle.node_core.specs.Rules.{asked_of}
 use Rattle.node_core.specs.Serving.{carried, carried_at, may_follow, replayed_as, replayed_all}
@@ -55,6 +55,12 @@ restart_keeps (Served client seq part call said ∷ items) t inv s state is down
     subst (λ f. Inv (restarted_at t s state (carried_at (store_of state) client seq call (asked_of call)) items (changed t.past client seq call f))) (sym serve.said') at_call in
     subst (λ b. Inv (after_first t s state (Served client seq part call said) items b)) (sym can) with_said
 restart_keeps (Opened ∷ items) t inv s state is down doubt =
+    let follows = subst (Follows t.world.setup.servers t.world.sent s (store_of state)) doubt (inv.doubt.doubt_follows.at s state is) in absurd follows.0
+restart_keeps (Begin dir part depth ∷ items) t inv s state is down doubt =
+    let follows = subst (Follows t.world.setup.servers t.world.sent s (store_of state)) doubt (inv.doubt.doubt_follows.at s state is) in absurd follows.0
+restart_keeps (Install dir part depth bitmap sessions rows ∷ items) t inv s state is down doubt =
+    let follows = subst (Follows t.world.setup.servers t.world.sent s (store_of state)) doubt (inv.doubt.doubt_follows.at s state is) in absurd follows.0
+restart_keeps (End dir part depth ∷ items) t inv s state is down doubt =
     let follows = subst (Follows t.world.setup.servers t.world.sent s (store_of state)) doubt (inv.doubt.doubt_follows.at s state is) in absurd follows.0
 restart_keeps (Head format servers server threshold ∷ items) t inv s state is down doubt =
     let follows = subst (Follows t.world.setup.servers t.world.sent s (store_of state)) doubt (inv.doubt.doubt_follows.at s state is) in absurd follows.0

@@ -14,7 +14,7 @@ use Rattle.mds_base.specs.History.{IsLegal, map_after, given}
 use Rattle.records.specs.declared.msg.Msg.{Msg}
 use Rattle.records.specs.declared.msg.Msg.TheVariants.{Request, Answer}
 use Rattle.records.specs.declared.record.Record.{Record}
-use Rattle.records.specs.declared.record.Record.TheVariants.{Head, Opened, Served}
+use Rattle.records.specs.declared.record.Record.TheVariants.{Head, Opened, Begin, Install, End, Served}
 use Rattle.node_core.specs.Nodes.{StoreV, server_for, row_in, session_in}
 use Rattle.node_core.specs.Rules.{ChangeOf, asked_of, found}
 use Rattle.sessions.specs.Kept.{seq_of}
@@ -38,6 +38,9 @@ follow_grows : (count : ℕ) (sent more : List Msg) (s : ℕ) (store : StoreV) (
 follow_grows count sent more s store (Served client seq part call said) m =
     record { dir = m.dir; name = m.name; may = may_grow count sent more s store client seq call m.dir m.name m.may; said' = m.said'; part' = m.part' }
 follow_grows count sent more s store Opened m = absurd m
+follow_grows count sent more s store (Begin dir part depth) m = absurd m
+follow_grows count sent more s store (Install dir part depth bitmap sessions rows) m = absurd m
+follow_grows count sent more s store (End dir part depth) m = absurd m
 follow_grows count sent more s store (Head format servers server threshold) m = absurd m
 
 -- records in doubt may still be made when more was sent

@@ -25,6 +25,7 @@ use Rattle.world.specs.declared.state.ServerState.{ServerState}
 use Rattle.world.specs.declared.state.ClientState.{ClientState}
 use Rattle.world.specs.Lists.{Among}
 use Rattle.world.specs.Worlds.{store_of}
+use Rattle.world.specs.Events.{is_call}
 use Rattle.world.specs.Histories.{MadeV, Trace, Change, changed, looked, counted}
 use Rattle.world.proofs.Invariant.{MayCarry, Follows, IsIssueOf, IsKeptPart, AsksFor}
 
@@ -151,9 +152,10 @@ pub record MaySend (t : Trace) (to : ℕ) (ask : Ask) : Type 0 where
   pub kept : IsKeptPart part
   pub there : to ≡ server_for t.world.setup.servers (dir_of ask.call) part
 
-pub record MayOpen (t : Trace) (k : ℕ) (seat : ClientState) : Type 0 where
+pub record MayOpen (t : Trace) (k : ℕ) (seat : ClientState) (call : Call) : Type 0 where
   pub is : slice_get t.world.clients k ≡ Some seat
   pub idle : seat.client.pending ≡ None
+  pub served : is_call call ≡ true
 
 pub record MayBump (t : Trace) (k : ℕ) (seat : ClientState) (pending : Pending) : Type 0 where
   pub is : slice_get t.world.clients k ≡ Some seat
@@ -178,7 +180,7 @@ may t (Redo s state client seq call dir name part said items) = MayRedo t s stat
 may t (Look s state ask dir name until) = MayLook t s state ask dir name
 may t (Tell client seq attempt said) = Among t.past.made (λ k e. IsToldOf e client seq said)
 may t (Send to ask cursor) = MaySend t to ask
-may t (Open k seat call) = MayOpen t k seat
+may t (Open k seat call) = MayOpen t k seat call
 may t (Bump k seat pending) = MayBump t k seat pending
 may t (Merge k seat dir bits) = MayMerge t k seat bits
 may t (Close k seat pending attempt reply place) = MayClose t k seat pending attempt reply place

@@ -3,12 +3,13 @@ use Rattle.std.proofs.Common.{◌≡◌, refl, ℕ, zero, suc, ◌%◌, ◌^◌,
 use Rattle.std.proofs.Math.Nat.{mod-one}
 use Rattle.mds_base.specs.declared.TheConstants.{RADIX}
 use Rattle.mds_base.specs.declared.call.Call.{Call}
-use Rattle.mds_base.specs.declared.call.Call.TheVariants.{Create, Mkdir, Remove, Lookup, Setattr, Scan, Grab, Load, Link}
+use Rattle.mds_base.specs.declared.call.Call.TheVariants.{Create, Mkdir, Remove, Lookup, Setattr, Scan, Grab, Load, Link, Seal, Unseal, Kill, Unlink}
 use Rattle.bitmap.specs.Bits.{has}
 use Rattle.chains.specs.Located.{located, run}
 use Rattle.chains.proofs.RunLengths.{run_before}
 use Rattle.name_hash.specs.NameHash.{hash_of}
 use Rattle.client_core.specs.Clients.{ClientV, bits_in, located_in, target_of}
+use Rattle.world.specs.Events.{is_call}
 use Rattle.world.proofs.Invariant.{AreKept, IsKeptPart}
 
 by_run : (h : ℕ) (b : ℕ → Bool) → ((x : ℕ) → b x ≡ true → x ≡ 0) → (n : ℕ) → ((i : ℕ) → i < n → b (h % 2 ^ suc i) ≡ true) → h % 2 ^ n ≡ 0
@@ -22,13 +23,17 @@ located_zero r h b only = by_run h b only (run r (λ i. b (h % 2 ^ suc i))) (run
 located_kept : (client : ClientV) (dir : ℕ) (name : List ℕ) → AreKept client → IsKeptPart (located_in client dir name)
 located_kept client dir name kept = located_zero RADIX (hash_of name) (has (bits_in client dir)) (kept dir)
 
-pub target_kept : (client : ClientV) (call : Call) → AreKept client → IsKeptPart (target_of client call)
-target_kept client (Create dir name) kept = located_kept client dir name kept
-target_kept client (Mkdir dir name) kept = located_kept client dir name kept
-target_kept client (Remove dir name) kept = located_kept client dir name kept
-target_kept client (Lookup dir name) kept = located_kept client dir name kept
-target_kept client (Setattr dir name mode size) kept = located_kept client dir name kept
-target_kept client (Scan dir) kept = refl
-target_kept client (Grab dir name count) kept = located_kept client dir name kept
-target_kept client (Load dir rows) kept = refl
-target_kept client (Link dir name id) kept = located_kept client dir name kept
+pub target_kept : (client : ClientV) (call : Call) → is_call call ≡ true → AreKept client → IsKeptPart (target_of client call)
+target_kept client (Create dir name) is kept = located_kept client dir name kept
+target_kept client (Mkdir dir name) is kept = located_kept client dir name kept
+target_kept client (Remove dir name) is kept = located_kept client dir name kept
+target_kept client (Lookup dir name) is kept = located_kept client dir name kept
+target_kept client (Setattr dir name mode size stamp) is kept = located_kept client dir name kept
+target_kept client (Scan dir) is kept = refl
+target_kept client (Grab dir name count) is kept = located_kept client dir name kept
+target_kept client (Load dir rows) is kept = refl
+target_kept client (Link dir name id) is kept = located_kept client dir name kept
+target_kept client (Seal dir part epoch) is kept = cc
+target_kept client (Unseal dir part epoch) is kept = cc
+target_kept client (Kill dir epoch) is kept = refl
+target_kept client (Unlink dir name id) is kept = located_kept client dir name kept

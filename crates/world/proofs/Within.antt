@@ -10,9 +10,9 @@ use Rattle.std.proofs.lemmas.List.FromFn.{map-range_with_len_more}
 use Rattle.mds_base.specs.declared.setup.Setup.{Setup}
 use Rattle.mds_base.specs.declared.ask.Ask.{Ask}
 use Rattle.mds_base.specs.declared.call.Call.{Call}
-use Rattle.mds_base.specs.declared.call.Call.TheVariants.{Create, Mkdir, Remove, Lookup, Setattr, Scan, Grab, Load, Link}
+use Rattle.mds_base.specs.declared.call.Call.TheVariants.{Create, Mkdir, Remove, Lookup, Setattr, Scan, Grab, Load, Link, Seal, Unseal, Kill, Unlink}
 use Rattle.records.specs.declared.msg.Msg.{Msg}
-use Rattle.records.specs.declared.msg.Msg.TheVariants.{Request, Redirect, Answer, Busy, Held, Transfer, Installed}
+use Rattle.records.specs.declared.msg.Msg.TheVariants.{Request, Redirect, Answer, Busy, Held, Page, Closed, Transfer, Installed}
 use Rattle.node_core.specs.Nodes.{StoreV}
 use Rattle.node_core.specs.Rules.{Outcome, Silent, Looks, Repeats, Carries, outcome}
 use Rattle.node_core.specs.Serving.{serve, served_as}
@@ -42,11 +42,15 @@ call_fits (Create dir name) e = dir_fits dir e
 call_fits (Mkdir dir name) e = dir_fits dir e
 call_fits (Remove dir name) e = dir_fits dir e
 call_fits (Lookup dir name) e = dir_fits dir e
-call_fits (Setattr dir name mode size) e = dir_fits dir (and_parts (is_dir dir) _ e).0
+call_fits (Setattr dir name mode size stamp) e = dir_fits dir (and_parts (is_dir dir) _ e).0
 call_fits (Scan dir) e = cc
 call_fits (Grab dir name count) e = cc
 call_fits (Load dir rows) e = cc
 call_fits (Link dir name id) e = cc
+call_fits (Seal dir part epoch) e = cc
+call_fits (Unseal dir part epoch) e = cc
+call_fits (Kill dir epoch) e = cc
+call_fits (Unlink dir name id) e = cc
 
 -- Lists
 
@@ -73,7 +77,9 @@ outputs_fit store (Redirect client seq attempt dir bits) now = each_none
 outputs_fit store (Answer client seq attempt reply) now = each_none
 outputs_fit store (Busy client seq attempt part depth) now = each_none
 outputs_fit store (Held client seq attempt until) now = each_none
-outputs_fit store (Transfer server dir part depth bits sessions top rows) now = each_none
+outputs_fit store (Page client seq attempt rows next) now = each_none
+outputs_fit store (Closed client seq attempt part epoch) now = each_none
+outputs_fit store (Transfer server dir part depth index count bits sessions top rows) now = each_none
 outputs_fit store (Installed server dir part child) now = each_none
 
 served_records : (store : StoreV) (ask : Ask) (o : Outcome) → dir_of ask.call < 2 ^ 48 → Each (served_as store ask o).records (λ k item. RecordFits item)
@@ -88,7 +94,9 @@ records_fit store (Redirect client seq attempt dir bits) now fits = each_none
 records_fit store (Answer client seq attempt reply) now fits = each_none
 records_fit store (Busy client seq attempt part depth) now fits = each_none
 records_fit store (Held client seq attempt until) now fits = each_none
-records_fit store (Transfer server dir part depth bits sessions top rows) now fits = each_none
+records_fit store (Page client seq attempt rows next) now fits = each_none
+records_fit store (Closed client seq attempt part epoch) now fits = each_none
+records_fit store (Transfer server dir part depth index count bits sessions top rows) now fits = each_none
 records_fit store (Installed server dir part child) now fits = each_none
 
 -- What taking leaves
@@ -115,7 +123,9 @@ take_pending_fits client pending (Redirect to seq attempt dir bits) all fits = r
 take_pending_fits client pending (Busy to seq attempt part depth) all fits = busy_fits client part _ all
 take_pending_fits client pending (Held to seq attempt until) all fits = held_fits client until _ all
 take_pending_fits client pending (Request to ask cursor) all fits = all
-take_pending_fits client pending (Transfer to dir part depth bits sessions top rows) all fits = all
+take_pending_fits client pending (Page to seq attempt rows next) all fits = all
+take_pending_fits client pending (Closed to seq attempt part epoch) all fits = all
+take_pending_fits client pending (Transfer to dir part depth index count bits sessions top rows) all fits = all
 take_pending_fits client pending (Installed to dir part child) all fits = all
 
 take_fits_at : (client : ClientV) (p : Option Pending) (msg : Msg) → PendingFits client.pending → PendingFits p → PendingFits (take_at client p msg).client.pending

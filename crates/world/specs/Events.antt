@@ -3,9 +3,9 @@ use Rattle.std.specs.Prelude.{ℕ, zero, suc, ◌+◌, ◌^◌, ◌&&◌, ◌||�
 use Rattle.std.specs.List.{slice_get, list_all, list_any}
 use Rattle.std.specs.FinSet as set
 use Rattle.mds_base.specs.declared.call.Call.{Call}
-use Rattle.mds_base.specs.declared.call.Call.TheVariants.{Create, Mkdir, Remove, Lookup, Setattr, Scan, Grab, Load, Link}
+use Rattle.mds_base.specs.declared.call.Call.TheVariants.{Create, Mkdir, Remove, Lookup, Setattr, Scan, Grab, Load, Link, Seal, Unseal, Kill, Unlink}
 use Rattle.records.specs.declared.msg.Msg.{Msg}
-use Rattle.records.specs.declared.msg.Msg.TheVariants.{Request, Redirect, Answer, Busy, Held, Transfer, Installed}
+use Rattle.records.specs.Messages.{server_of_msg, client_of_msg}
 use Rattle.bitmap.specs.Bits.{Bits, has}
 use Rattle.node_core.specs.Nodes.{StoreV, has_numbers}
 use Rattle.node_core.specs.Serving.{ServedV, serve_all, replayed_all, restarted}
@@ -33,25 +33,29 @@ is_call (Create dir name) = is_dir dir
 is_call (Mkdir dir name) = is_dir dir
 is_call (Remove dir name) = is_dir dir
 is_call (Lookup dir name) = is_dir dir
-is_call (Setattr dir name mode size) = is_dir dir && nat_le mode 4095
+is_call (Setattr dir name mode size stamp) = is_dir dir && nat_le mode 4095
 is_call (Scan dir) = false
 is_call (Grab dir name count) = false
 is_call (Load dir rows) = false
 is_call (Link dir name id) = false
+is_call (Seal dir part epoch) = false
+is_call (Unseal dir part epoch) = false
+is_call (Kill dir epoch) = false
+is_call (Unlink dir name id) = false
 
--- the server that a message is for, and the client
+-- whether a number that may be there is this one
+abbrev pub is_one : ℕ → Option ℕ → Bool
+is_one number None = false
+is_one number (Some other) = other == number
+
+-- a message is for a server, and for a client
 abbrev pub is_for_server : ℕ → Option Msg → Bool
-is_for_server server (Some (Request to ask cursor)) = to == server
-is_for_server server (Some (Transfer to dir part depth bits sessions top rows)) = to == server
-is_for_server server (Some (Installed to dir part child)) = to == server
-is_for_server server msg = false
+is_for_server server None = false
+is_for_server server (Some msg) = is_one server (server_of_msg msg)
 
 abbrev pub is_for_client : ℕ → Option Msg → Bool
-is_for_client client (Some (Redirect to seq attempt dir bits)) = to == client
-is_for_client client (Some (Answer to seq attempt reply)) = to == client
-is_for_client client (Some (Busy to seq attempt part depth)) = to == client
-is_for_client client (Some (Held to seq attempt until)) = to == client
-is_for_client client msg = false
+is_for_client client None = false
+is_for_client client (Some msg) = is_one client (client_of_msg msg)
 
 -- the attempts of an open call leave room for further ones
 abbrev pub has_room : Option Pending → Bool
@@ -90,12 +94,15 @@ abbrev pub is_there : Option ServerState → Bool
 is_there None = false
 is_there (Some server) = true
 
+-- a server is there and down
+abbrev pub is_down_at : List ServerState → Option ℕ → Bool
+is_down_at servers None = false
+is_down_at servers (Some server) = is_there (slice_get servers server) && not (is_up (slice_get servers server))
+
 -- a message meets a server that is down
 abbrev pub misses : List ServerState → Option Msg → Bool
-misses servers (Some (Request to ask cursor)) = is_there (slice_get servers to) && not (is_up (slice_get servers to))
-misses servers (Some (Transfer to dir part depth bits sessions top rows)) = is_there (slice_get servers to) && not (is_up (slice_get servers to))
-misses servers (Some (Installed to dir part child)) = is_there (slice_get servers to) && not (is_up (slice_get servers to))
-misses servers msg = false
+misses servers None = false
+misses servers (Some msg) = is_down_at servers (server_of_msg msg)
 
 -- a server that is down may keep none of the records in doubt, or all
 abbrev pub can_restart : Option ServerState → ℕ → Bool

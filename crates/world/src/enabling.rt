@@ -1,7 +1,7 @@
 ghost use Rattle.std.specs.Prelude.{◌≡◌, ◌&&◌, not};
 ghost use Rattle.std.specs.Option.{option_copied};
 ghost use Rattle.std.specs.List.{slice_get};
-ghost use Rattle.world.specs.Events.{is_dir, is_call, is_for_server, is_for_client, can_issue, can_resend, can_take, can_give_up, can_serve, is_up, is_there, misses, can_restart, can_stop, is_known, seat_at, serves_at, are_known};
+ghost use Rattle.world.specs.Events.{is_dir, is_call, is_one, is_for_server, is_for_client, can_issue, can_resend, can_take, can_give_up, can_serve, is_up, is_there, is_down_at, misses, can_restart, can_stop, is_known, seat_at, serves_at, are_known};
 
 use crate::event::StopCause;
 use crate::state::{ClientState, ServerState};
@@ -84,6 +84,10 @@ fn is_call(call: &Call) -> bool
         Call::Grab { .. } => false,
         Call::Load { .. } => false,
         Call::Link { .. } => false,
+        Call::Seal { .. } => false,
+        Call::Unseal { .. } => false,
+        Call::Kill { .. } => false,
+        Call::Unlink { .. } => false,
     }
 }
 
@@ -147,10 +151,17 @@ fn is_for_server(server: u32, msg: Option<&Msg>) -> bool
     ensures { result ≡ is_for_server server (option_copied msg.entry) }
 {
     match msg {
-        Some(Msg::Request { server: to, .. }) => *to == server,
-        Some(Msg::Transfer { server: to, .. }) => *to == server,
-        Some(Msg::Installed { server: to, .. }) => *to == server,
-        _ => false,
+        None => false,
+        Some(msg) => is_one(server, msg.server()),
+    }
+}
+
+fn is_one(number: u32, other: Option<u32>) -> bool
+    ensures { result ≡ is_one number other }
+{
+    match other {
+        None => false,
+        Some(other) => other == number,
     }
 }
 
@@ -159,11 +170,8 @@ pub fn is_for_client(client: u32, msg: Option<&Msg>) -> bool
     ensures { result ≡ is_for_client client (option_copied msg.entry) }
 {
     match msg {
-        Some(Msg::Redirect { client: to, .. }) => *to == client,
-        Some(Msg::Answer { client: to, .. }) => *to == client,
-        Some(Msg::Busy { client: to, .. }) => *to == client,
-        Some(Msg::Held { client: to, .. }) => *to == client,
-        _ => false,
+        None => false,
+        Some(msg) => is_one(client, msg.client()),
     }
 }
 
@@ -172,10 +180,17 @@ pub fn misses(servers: &[ServerState], msg: Option<&Msg>) -> bool
     ensures { result ≡ misses servers.now (option_copied msg.entry) }
 {
     match msg {
-        Some(Msg::Request { server, .. }) => is_down(servers.get(*server as usize)),
-        Some(Msg::Transfer { server, .. }) => is_down(servers.get(*server as usize)),
-        Some(Msg::Installed { server, .. }) => is_down(servers.get(*server as usize)),
-        _ => false,
+        None => false,
+        Some(msg) => is_down_at(servers, msg.server()),
+    }
+}
+
+fn is_down_at(servers: &[ServerState], server: Option<u32>) -> bool
+    ensures { result ≡ is_down_at servers.now server }
+{
+    match server {
+        None => false,
+        Some(server) => is_down(servers.get(server as usize)),
     }
 }
 
