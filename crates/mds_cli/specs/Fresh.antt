@@ -5,7 +5,7 @@ use Rattle.mds_out.specs.Content.{bytes_of}
 use Rattle.mds_out.specs.Disk.{Image, Contents}
 use Rattle.mds_out.specs.Past.{Past, content_of, IsPastImage}
 use Rattle.simulation.specs.Starts.{AreReached}
-use Rattle.world.specs.Lists.{Each}
+use Rattle.mds_base.specs.Lists.{Each}
 
 -- file 1 of the disk is empty, and a crash leaves it so
 pub record IsNewDisk {D : Type 0} (seen : D → Contents) (images : D → Image → Type 0) (disk : D) : Type 0 where

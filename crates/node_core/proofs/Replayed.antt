@@ -3,7 +3,8 @@ use Rattle.std.proofs.Common.{◌≡◌, ◌∙◌, sym, ap, refl, ℕ, ◌==◌
 use Rattle.std.proofs.lemmas.Bool.{and_parts, and_from, eqb-true, eq-eqb, false_from_ne_true}
 use Rattle.mds_base.specs.declared.call.Call.{Call}
 use Rattle.mds_base.specs.declared.reply.Final.{Final}
-use Rattle.mds_base.specs.declared.reply.Final.TheVariants.{Created, CreatedDir, Exists, Removed, Missing, IsDir, Set, Ids, Loaded, Stale}
+use Rattle.mds_base.specs.Finals.{same_final}
+use Rattle.mds_base.proofs.Finals.{same_finals, same_final_self}
 use Rattle.mds_base.specs.declared.reply.Reply.{Reply}
 use Rattle.records.specs.declared.record.Record.TheVariants.{Served}
 use Rattle.sessions.specs.declared.kept.Judged.{Judged}
@@ -11,33 +12,7 @@ use Rattle.sessions.specs.declared.kept.Judged.TheVariants.{New, Again, Old}
 use Rattle.sessions.specs.Kept.{judge_kept}
 use Rattle.node_core.specs.Nodes.{NodeV, StoreV, owns, has_numbers, session_in}
 use Rattle.node_core.specs.Rules.{ChangeOf, LookOf, NotServed, asked_of, said_in, Outcome, Silent, Looks, Carries, by_judged, outcome_of, outcome}
-use Rattle.node_core.specs.Serving.{same_final, final_tag, carries, may_follow, may_carry, is_new_change, part_at, ask_of, carried, carried_at, replayed, replayed_as, IsReplayed}
-
-abbrev final_of : ℕ → ℕ → Final
-final_of t n = cond (t == 1) Created (cond (t == 2) (CreatedDir n) (cond (t == 3) Exists (cond (t == 4) Removed (cond (t == 5) Missing (cond (t == 6) IsDir (cond (t == 7) Set (cond (t == 8) (Ids n) (cond (t == 9) (Loaded n) Stale))))))))
-
-final_back : (said : Final) → final_of (final_tag said).0 (final_tag said).1 ≡ said
-final_back Created = refl
-final_back (CreatedDir n) = refl
-final_back Exists = refl
-final_back Removed = refl
-final_back Missing = refl
-final_back IsDir = refl
-final_back Set = refl
-final_back (Ids n) = refl
-final_back (Loaded n) = refl
-final_back Stale = refl
-
--- finals with one tag and one number are one
-pub same_finals : (a b : Final) → same_final a b ≡ true → a ≡ b
-same_finals a b e =
-    let h = and_parts ((final_tag a).0 == (final_tag b).0) ((final_tag a).1 == (final_tag b).1) e in
-    let t = eqb-true (final_tag a).0 (final_tag b).0 h.0 in
-    let n = eqb-true (final_tag a).1 (final_tag b).1 h.1 in
-    sym (final_back a) ∙ ap (λ x. final_of x (final_tag a).1) t ∙ ap (final_of (final_tag b).0) n ∙ final_back b
-
-pub same_final_self : (said : Final) → same_final said said ≡ true
-same_final_self said = and_from ((final_tag said).0 == (final_tag said).0) ((final_tag said).1 == (final_tag said).1) (eq-eqb (final_tag said).0 (final_tag said).0 refl) (eq-eqb (final_tag said).1 (final_tag said).1 refl)
+use Rattle.node_core.specs.Serving.{carries, may_follow, may_carry, is_new_change, part_at, ask_of, carried, carried_at, replayed, replayed_as, IsReplayed}
 
 -- a record that may not follow changes nothing
 pub stays : (store : StoreV) (client seq part : ℕ) (call : Call) (said : Final) → (may_follow store (Served client seq part call said) ≡ true → ⊥) → IsReplayed store (Served client seq part call said) store.node store.rows false

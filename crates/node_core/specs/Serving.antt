@@ -3,7 +3,7 @@ use Rattle.std.specs.Prelude.{◌≡◌, ℕ, ◌&&◌, ◌==◌, Bool, true, fa
 use Rattle.mds_base.specs.declared.ask.Ask.{Ask}
 use Rattle.mds_base.specs.declared.call.Call.{Call}
 use Rattle.mds_base.specs.declared.reply.Final.{Final}
-use Rattle.mds_base.specs.declared.reply.Final.TheVariants.{Created, CreatedDir, Exists, Removed, Missing, IsDir, Set, Ids, Loaded, Stale}
+use Rattle.mds_base.specs.Finals.{same_final}
 use Rattle.mds_base.specs.declared.reply.Reply.{Reply}
 use Rattle.mds_base.specs.declared.reply.Reply.TheVariants.{Said}
 use Rattle.records.specs.declared.msg.Msg.{Msg}
@@ -79,22 +79,6 @@ serve_all store (msg ∷ msgs) now =
 -- the transfers of the partitions that move, by directory and number: nothing splits yet, so none moves
 abbrev pub reminders : StoreV → List Msg
 reminders store = []
-
--- finals by a tag and a number
-abbrev pub final_tag : Final → ℕ × ℕ
-final_tag Created = (1, 0)
-final_tag (CreatedDir number) = (2, number)
-final_tag Exists = (3, 0)
-final_tag Removed = (4, 0)
-final_tag Missing = (5, 0)
-final_tag IsDir = (6, 0)
-final_tag Set = (7, 0)
-final_tag (Ids first) = (8, first)
-final_tag (Loaded count) = (9, count)
-final_tag Stale = (10, 0)
-
-abbrev pub same_final : Final → Final → Bool
-same_final a b = ((final_tag a).0 == (final_tag b).0) && ((final_tag a).1 == (final_tag b).1)
 
 -- whether serving comes to carrying out a change with this final reply
 abbrev pub carries : Outcome → Final → Bool

@@ -10,7 +10,7 @@ use Rattle.records.specs.declared.msg.Msg.{Msg}
 use Rattle.client_core.specs.Clients.{ClientV}
 use Rattle.node_store.specs.Store.{Store}
 use Rattle.world.specs.declared.state.ServerState.{ServerState}
-use Rattle.world.proofs.Grow.{each_set, get_set, length_set}
+use Rattle.mds_base.proofs.Grow.{each_set, get_set, length_set}
 use Rattle.simulation.specs.Calls.{armed}
 use Rattle.simulation.specs.Fuses.{seen_by, images_by}
 use Rattle.simulation.specs.Ranges.{AreRanges}

@@ -21,9 +21,9 @@ use Rattle.world.specs.declared.state.ClientState.{ClientState}
 use Rattle.world.specs.Events.{is_for_server}
 use Rattle.world.specs.Histories.{Trace, run}
 use Rattle.world.specs.Law.{PastRun, new_servers, opened, ended, start_trace}
-use Rattle.world.specs.Lists.{Each}
+use Rattle.mds_base.specs.Lists.{Each}
 use Rattle.world.specs.Worlds.{store_of, new_server, new_seat}
-use Rattle.world.proofs.Grow.{within}
+use Rattle.mds_base.proofs.Grow.{within}
 use Rattle.world.proofs.Happens.{run_keeps}
 use Rattle.world.proofs.Invariant.{Inv}
 use Rattle.world.proofs.Starts.{get_below, get_mapped, start_inv}

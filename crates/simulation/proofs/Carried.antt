@@ -22,7 +22,7 @@ use Rattle.node_store.specs.Serve.{IsWellMade}
 use Rattle.node_store.specs.Store.{Store}
 use Rattle.world.specs.declared.event.Event.TheVariants.{Issue, Resend, Take}
 use Rattle.world.specs.Events.{index_of, is_call, is_for_client}
-use Rattle.world.proofs.Grow.{get_last}
+use Rattle.mds_base.proofs.Grow.{get_last}
 use Rattle.simulation.specs.Calls.{IsRequestAt, IsSend, awaiting, noting, taken_of}
 use Rattle.simulation.specs.Ranges.{IsOpenCall, IsOpen, IsSeat, IsSent, AreRanges}
 use Rattle.simulation.specs.Shows.{SimulationV, Happens, waiting_cmp, client_at, server_for, is_request_of, is_idle, is_busy}

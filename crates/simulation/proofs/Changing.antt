@@ -17,8 +17,8 @@ use Rattle.node_core.specs.Serving.{serve, served_as}
 use Rattle.node_store.specs.Serve.{IsMessage}
 use Rattle.node_store.specs.Store.{Store, IsDownAt}
 use Rattle.world.specs.declared.event.Event.TheVariants.{Miss}
-use Rattle.world.specs.Lists.{Each}
-use Rattle.world.proofs.Grow.{each_push, each_map, each_set, length_set, set_apart, set_here}
+use Rattle.mds_base.specs.Lists.{Each}
+use Rattle.mds_base.proofs.Grow.{each_push, each_map, each_set, length_set, set_apart, set_here}
 use Rattle.simulation.specs.Calls.{CanMiss, faults_of, faults_at}
 use Rattle.simulation.specs.Ranges.{IsSent, AreRanges}
 use Rattle.simulation.specs.Shows.{SimulationV, Happens, server_for, is_up, store_is_up}

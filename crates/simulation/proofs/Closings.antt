@@ -11,9 +11,9 @@ use Rattle.world.specs.Events as events
 use Rattle.world.specs.Events.{up_with}
 use Rattle.world.specs.Histories.{Trace, happens, run}
 use Rattle.world.specs.Law.{closing, ended}
-use Rattle.world.specs.Lists.{Each}
+use Rattle.mds_base.specs.Lists.{Each}
 use Rattle.world.proofs.Ends.{closing_if, same_state, above}
-use Rattle.world.proofs.Grow.{set_here, set_apart, length_set}
+use Rattle.mds_base.proofs.Grow.{set_here, set_apart, length_set}
 
 -- a server once those that were down came up again
 abbrev pub closed_as : Bool → ServerState → Bool → ServerState

@@ -8,7 +8,7 @@ use Rattle.mds_out.specs.Disk.{Image, Contents}
 use Rattle.mds_out.specs.Fused.{Fused}
 use Rattle.client_core.specs.Clients.{ClientV, new_client}
 use Rattle.node_store.specs.Store.{Store}
-use Rattle.world.proofs.Grow.{within}
+use Rattle.mds_base.proofs.Grow.{within}
 use Rattle.world.proofs.Starts.{get_below, ranged}
 use Rattle.simulation.specs.Openings.{Paired, IsUpOn}
 use Rattle.simulation.specs.Ranges.{IsSetup, IsSeat, AreRanges}

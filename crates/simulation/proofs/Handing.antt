@@ -17,7 +17,7 @@ use Rattle.node_store.specs.Serve.{IsOneMessage, HasServed, HasStopped}
 use Rattle.node_store.specs.Store.{Store}
 use Rattle.world.specs.declared.event.Event.TheVariants.{Serve}
 use Rattle.world.specs.declared.event.ServeEnd.TheVariants as ends
-use Rattle.world.proofs.Grow.{set_same, within}
+use Rattle.mds_base.proofs.Grow.{set_same, within}
 use Rattle.simulation.specs.declared.made.Made.{Made}
 use Rattle.simulation.specs.declared.servers.Served.{Served}
 use Rattle.simulation.specs.declared.servers.Served.TheVariants as serves

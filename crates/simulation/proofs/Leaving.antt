@@ -19,7 +19,7 @@ use Rattle.node_store.proofs.Standing.{stand_more}
 use Rattle.world.specs.declared.state.ServerState.{ServerState}
 use Rattle.world.specs.Law.{PastRun, new_servers}
 use Rattle.world.specs.Worlds.{store_of}
-use Rattle.world.proofs.Grow.{within}
+use Rattle.mds_base.proofs.Grow.{within}
 use Rattle.world.proofs.Starts.{get_below}
 use Rattle.simulation.specs.Fuses.{seen_by, images_by}
 use Rattle.simulation.specs.Openings.{Paired, IsDiskOf, IsOpenFault, IsNotOpened, IsNoDamage}

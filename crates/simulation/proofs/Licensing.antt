@@ -8,7 +8,7 @@ use Rattle.std.proofs.lemmas.Option.{none-some}
 use Rattle.mds_out.specs.Fault.{Rose}
 use Rattle.mds_out.specs.Fused.{Fused}
 use Rattle.node_store.specs.Store.{Store}
-use Rattle.world.proofs.Grow.{set_here}
+use Rattle.mds_base.proofs.Grow.{set_here}
 use Rattle.simulation.specs.Calls.{armed}
 use Rattle.simulation.specs.Licences.{armed_of, own_faults, IsLicensed, AreLicensed, none_at, once_at}
 use Rattle.simulation.specs.Shows.{SimulationV}

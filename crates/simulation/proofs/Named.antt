@@ -10,7 +10,7 @@ use Rattle.records.specs.declared.msg.Msg.{Msg}
 use Rattle.records.specs.declared.msg.Msg.TheVariants.{Request, Redirect, Answer, Busy, Held, Page, Closed, Transfer, Installed}
 use Rattle.world.specs.declared.event.Event.{Event}
 use Rattle.world.specs.Events.{is_for_server}
-use Rattle.world.proofs.Grow.{get_last}
+use Rattle.mds_base.proofs.Grow.{get_last}
 use Rattle.simulation.specs.Runs.{names, is_named}
 use Rattle.simulation.specs.Shows.{waiting_cmp, server_for}
 use Rattle.simulation.proofs.Sets.{waiting_total, exact_waiting, insert_here, insert_apart, number_or_apart}

@@ -3,7 +3,7 @@ use Rattle.std.proofs.Common.{◌≡◌, ap, subst, refl, ℕ, zero, suc, ◌+�
 use Rattle.std.specs.Prelude.{map as list_map}
 use Rattle.std.specs.List.{slice_get}
 use Rattle.std.proofs.lemmas.Option.{same_Some}
-use Rattle.world.specs.Lists.{Each}
+use Rattle.mds_base.specs.Lists.{Each}
 use Rattle.simulation.specs.Openings.{Paired}
 
 pub paired_join : {X Y : Type 0} (P : ℕ → X → Y → Type 0) (s : ℕ) (xs more : List X) (ys others : List Y) → Paired P s xs ys → Paired P (s + length xs) more others → Paired P s (xs ++ more) (ys ++ others)

@@ -11,7 +11,7 @@ use Rattle.mds_out.specs.Fused.{Fused}
 use Rattle.node_core.specs.Nodes.{StoreV}
 use Rattle.node_store.specs.Stands.{opened_store}
 use Rattle.node_store.specs.Store.{Store, StandsForAny}
-use Rattle.world.proofs.Grow.{get_pushed}
+use Rattle.mds_base.proofs.Grow.{get_pushed}
 use Rattle.simulation.specs.Openings.{Paired, IsUpOn, IsCounted, AreCounted, IsDiskOf, IsHandedBack, IsOpenFault, IsNotOpened}
 use Rattle.simulation.proofs.Giving.{opened_back}
 use Rattle.simulation.proofs.Pairs.{paired_push, paired_join, paired_length, paired_self}

@@ -15,7 +15,7 @@ use Rattle.mds_base.specs.Calls.{dir_of}
 use Rattle.client_core.specs.Taking.{take, take_at, take_pending, answered_if, redirected_if, busy_if, held_if}
 use Rattle.node_store.specs.Serve.{IsWellMade}
 use Rattle.node_store.specs.Store.{Store}
-use Rattle.world.proofs.Grow.{each_push, each_map, each_set, length_set, within}
+use Rattle.mds_base.proofs.Grow.{each_push, each_map, each_set, length_set, within}
 use Rattle.simulation.specs.Ranges.{IsSetup, IsOpenCall, IsOpen, IsSeat, IsSent, AreRanges}
 
 open_more : (count seq : ℕ) (pending : Option Pending) → IsOpen count seq pending → IsOpen (count + 1) seq pending

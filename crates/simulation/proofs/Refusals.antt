@@ -7,7 +7,7 @@ use Rattle.node_core.specs.Serving.{replayed_all}
 use Rattle.world.specs.declared.state.ServerState.{ServerState}
 use Rattle.world.specs.Law.{PastRun, new_servers}
 use Rattle.world.specs.Worlds.{store_of}
-use Rattle.world.proofs.Grow.{within}
+use Rattle.mds_base.proofs.Grow.{within}
 use Rattle.world.proofs.Starts.{get_below}
 use Rattle.simulation.specs.Openings.{Paired, IsHandedBack}
 use Rattle.simulation.specs.Starts.{AreDisks, AreReached}

@@ -24,7 +24,7 @@ use Rattle.world.specs.Events.{set_server, can_restart, up_with}
 use Rattle.world.specs.Histories as past
 use Rattle.world.specs.Histories.{History, is_taken}
 use Rattle.world.specs.Worlds.{store_of}
-use Rattle.world.proofs.Grow.{set_same}
+use Rattle.mds_base.proofs.Grow.{set_same}
 use Rattle.simulation.specs.Entries.{change_of, changes_of}
 use Rattle.simulation.specs.Stores.{IsRestarted, IsDownStill}
 use Rattle.simulation.specs.Shows.{SimulationV, Shows, Happens, StaysNear, IsServer, AreServers, made_of}

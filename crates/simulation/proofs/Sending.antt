@@ -16,7 +16,7 @@ use Rattle.world.specs.Events as events
 use Rattle.world.specs.Events.{seat_at, index_of, set_client, say, with_client, can_issue, can_resend, has_room, is_open, is_call}
 use Rattle.world.specs.Histories as past
 use Rattle.world.specs.Histories.{History, is_taken}
-use Rattle.world.proofs.Grow.{each_set}
+use Rattle.mds_base.proofs.Grow.{each_set}
 use Rattle.simulation.specs.Runs.{RunV, GoesOn, names}
 use Rattle.simulation.specs.Shows.{SimulationV, Shows, Happens, client_at, server_for, made_of}
 use Rattle.simulation.specs.Calls.{awaiting}

@@ -23,7 +23,7 @@ use Rattle.world.specs.Events.{is_for_server, is_for_client, can_serve, set_serv
 use Rattle.world.specs.Histories as past
 use Rattle.world.specs.Histories.{History, is_taken, served_one}
 use Rattle.world.specs.Worlds.{store_of, with_store}
-use Rattle.world.proofs.Grow.{within}
+use Rattle.mds_base.proofs.Grow.{within}
 use Rattle.simulation.specs.Calls.{RepliesTo}
 use Rattle.simulation.specs.Entries.{changes_of, lookup_of, with_one}
 use Rattle.simulation.specs.Runs.{RunV, GoesOn, is_named, names}

@@ -8,7 +8,7 @@ use Rattle.node_core.specs.Nodes.{StoreV, has_numbers}
 use Rattle.node_store.specs.Store.{Store, IsDownAt}
 use Rattle.world.specs.declared.state.ServerState.{ServerState}
 use Rattle.world.specs.Worlds.{store_of}
-use Rattle.world.proofs.Grow.{within, length_set, get_set}
+use Rattle.mds_base.proofs.Grow.{within, length_set, get_set}
 use Rattle.simulation.specs.Shows.{IsServerAt, IsServer, AreServers, store_is_up, store_has_numbers, up_has_numbers}
 
 -- what stands at a place

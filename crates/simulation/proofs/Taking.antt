@@ -22,7 +22,7 @@ use Rattle.world.specs.Events as events
 use Rattle.world.specs.Events.{seat_at, index_of, set_client, with_client, can_take, has_room, is_for_client}
 use Rattle.world.specs.Histories as past
 use Rattle.world.specs.Histories.{History, AnsweredV, is_taken}
-use Rattle.world.proofs.Grow.{each_set}
+use Rattle.mds_base.proofs.Grow.{each_set}
 use Rattle.simulation.specs.Runs.{RunV, GoesOn}
 use Rattle.simulation.specs.Shows.{SimulationV, Shows, Happens, client_at, made_of}
 use Rattle.simulation.specs.Calls.{noting}

@@ -7,7 +7,7 @@ use Rattle.client_core.specs.declared.client.Pending.{Pending}
 use Rattle.client_core.specs.Clients.{ClientV}
 use Rattle.node_store.specs.Serve.{IsMessage, IsWellMade}
 use Rattle.node_store.specs.Store.{Store}
-use Rattle.world.specs.Lists.{Each}
+use Rattle.mds_base.specs.Lists.{Each}
 
 pub record IsSetup (setup : Setup) : Type 0 where
   pub some_server : 1 ≤ setup.servers

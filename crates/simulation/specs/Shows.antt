@@ -22,7 +22,7 @@ use Rattle.simulation.specs.declared.made.Kind.TheVariants as kinds
 use Rattle.simulation.specs.declared.made.Made.{Made}
 use Rattle.world.specs.Histories as past
 use Rattle.world.specs.Histories.{MadeV, is_taken}
-use Rattle.world.specs.Lists.{Each}
+use Rattle.mds_base.specs.Lists.{Each}
 use Rattle.world.specs.Worlds.{store_of}
 use Rattle.simulation.specs.Runs.{RunV, GoesOn, is_named}
 

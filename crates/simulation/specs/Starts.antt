@@ -12,7 +12,7 @@ use Rattle.world.specs.declared.state.ServerState.{ServerState}
 use Rattle.world.specs.Events.{all_enabled}
 use Rattle.world.specs.Histories.{run}
 use Rattle.world.specs.Law.{PastRun, IsReached, start_trace, new_servers}
-use Rattle.world.specs.Lists.{Each}
+use Rattle.mds_base.specs.Lists.{Each}
 use Rattle.world.specs.Worlds.{fresh_world, store_of}
 
 -- Past runs whose last one leaves it open which records in doubt are kept: that shows on the disks.

@@ -16,9 +16,9 @@ use Rattle.client_core.specs.declared.client.Pending.{Pending}
 use Rattle.client_core.specs.Clients.{ClientV, issued, resent, merged, bits_in, zero_bits}
 use Rattle.client_core.specs.Taking.{closed}
 use Rattle.world.specs.declared.state.ClientState.{ClientState}
-use Rattle.world.specs.Lists.{Among}
+use Rattle.mds_base.specs.Lists.{Among}
 use Rattle.world.specs.Histories.{IssuedV, AnsweredV, Trace}
-use Rattle.world.proofs.Grow.{get_set, set_here, set_apart, among_more, among_last, among_map, each_push, each_map, each_set, once_push, once_same, pred_same}
+use Rattle.mds_base.proofs.Grow.{get_set, set_here, set_apart, among_more, among_last, among_map, each_push, each_map, each_set, once_push, once_same, pred_same}
 use Rattle.world.proofs.Choices.{nat_or_apart}
 use Rattle.world.proofs.Invariant.{Inv, Sizes, CallsKept, RequestTrue, IsAnsweredBy, AreKept, IsKeptPart, seq_in, seq_or}
 use Rattle.world.proofs.Steps.{with_seat, open_at, close_at, MayOpen, MayBump, MayMerge, MayClose}

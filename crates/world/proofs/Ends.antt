@@ -19,7 +19,7 @@ use Rattle.world.specs.Events.{enabled, step, all_enabled, can_restart, up_with}
 use Rattle.world.specs.Histories as past
 use Rattle.world.specs.Histories.{History, Trace, MadeV, happens, run, counted}
 use Rattle.world.specs.Law.{closing}
-use Rattle.world.proofs.Grow.{set_here, set_apart}
+use Rattle.mds_base.proofs.Grow.{set_here, set_apart}
 use Rattle.world.proofs.Choices.{nat_or_apart}
 
 -- The setup stays

@@ -11,10 +11,10 @@ use Rattle.mds_base.specs.History.{IsLegal, IsLookup}
 use Rattle.mds_base.proofs.Histories.{dropped_legal}
 use Rattle.records.specs.declared.msg.Msg.TheVariants.{Answer}
 use Rattle.node_core.specs.Rules.{asked_of, LookOf}
-use Rattle.world.specs.Lists.{Among}
+use Rattle.mds_base.specs.Lists.{Among}
 use Rattle.world.specs.Histories.{MadeV, IssuedV, AnsweredV, Trace, Kind, Change, Looked, entries_of, stands, stands_as, is_taken, effects, IsSameCall, IsExplained}
-use Rattle.world.proofs.Grow.{once_same}
-use Rattle.world.proofs.Filters.{filter_from, filter_to, filter_once, any_true, any_from}
+use Rattle.mds_base.proofs.Grow.{once_same}
+use Rattle.mds_base.proofs.Filters.{filter_from, filter_to, filter_once, any_true, any_from}
 use Rattle.world.proofs.Tables.{is_lookup, no_look_changes}
 use Rattle.world.proofs.Invariant.{Inv, IsOfKind, IsSentAs}
 

@@ -32,14 +32,15 @@ use Rattle.world.specs.declared.event.ServeEnd.{ServeEnd}
 use Rattle.world.specs.declared.event.ServeEnd.TheVariants as ends
 use Rattle.world.specs.declared.state.ServerState.{ServerState}
 use Rattle.world.specs.declared.state.ClientState.{ClientState}
-use Rattle.world.specs.Lists.{Among}
+use Rattle.mds_base.specs.Lists.{Among}
 use Rattle.world.specs.Worlds.{store_of}
 use Rattle.world.specs.Events as events
 use Rattle.world.specs.Events.{enabled, step, is_call, can_issue, can_resend, can_take, can_give_up, can_serve, can_stop, can_restart, is_for_server, is_for_client, is_known, set_server, set_client, say, with_client, onto_msgs, after_serve_of}
 use Rattle.world.specs.Histories as past
 use Rattle.world.specs.Histories.{History, Trace, happens, counted, run}
-use Rattle.world.proofs.Grow.{set_here, set_twice, set_same, among_last, among_map}
-use Rattle.world.proofs.Filters.{any_true, or_cases}
+use Rattle.mds_base.proofs.Grow.{set_here, set_twice, set_same, among_last, among_map}
+use Rattle.std.proofs.lemmas.Bool.{or_cases}
+use Rattle.mds_base.proofs.Filters.{any_true}
 use Rattle.world.proofs.Invariant.{Inv, IsKeptPart, IsIssueOf}
 use Rattle.world.proofs.Steps.{with_seat, with_msg, open_at, close_at, with_server, does, Tick}
 use Rattle.world.proofs.Say.{send_keeps}

@@ -27,7 +27,7 @@ use Rattle.client_core.specs.Clients.{ClientV, bits_in}
 use Rattle.mds_base.specs.Calls.{dir_of}
 use Rattle.world.specs.declared.state.ServerState.{ServerState}
 use Rattle.world.specs.declared.state.ClientState.{ClientState}
-use Rattle.world.specs.Lists.{Each, Among, OnceBy}
+use Rattle.mds_base.specs.Lists.{Each, Among, OnceBy}
 use Rattle.world.specs.Worlds.{store_of}
 use Rattle.world.specs.Events.{is_call, seat_at}
 use Rattle.world.specs.Histories.{MadeV, IssuedV, AnsweredV, Trace, Kind, Change, Looked, IsOfIssue, IsAnswerOf, entries_of}

@@ -8,7 +8,7 @@ use Rattle.std.proofs.lemmas.Cmp.{eq_by_cmp_equiv}
 use Rattle.std.proofs.lemmas.Bool.{and_from}
 use Rattle.std.proofs.lemmas.Map.Keys.{any_passes_from_place}
 use Rattle.bitmap.specs.Bits.{Bits, has}
-use Rattle.world.proofs.Filters.{any_true}
+use Rattle.mds_base.proofs.Filters.{any_true}
 use Rattle.world.proofs.Happens.{all_true, same_key}
 
 all_from : {X : Type 0} (p : X → Bool) (xs : List X) → ((k : ℕ) (x : X) → slice_get xs k ≡ Some x → p x ≡ true) → list_all p xs ≡ true

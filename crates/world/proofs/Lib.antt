@@ -1,4 +1,3 @@
-pub mod Grow
 pub mod Invariant
 pub mod Tables
 pub mod Choices
@@ -10,7 +9,6 @@ pub mod NoteRest
 pub mod Say
 pub mod Clients
 pub mod Servers
-pub mod Filters
 pub mod Explain
 pub mod Keeps
 pub mod Targets

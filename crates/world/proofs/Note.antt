@@ -17,10 +17,10 @@ use Rattle.node_core.specs.Rules.{ChangeOf, asked_of, said_in}
 use Rattle.node_core.specs.Serving.{carried}
 use Rattle.node_core.proofs.Views.{edited_entry, entry_here, row_here, row_apart, session_here, session_beside, session_apart, parts_total, exact_parts}
 use Rattle.world.specs.declared.state.ServerState.{ServerState}
-use Rattle.world.specs.Lists.{Among}
+use Rattle.mds_base.specs.Lists.{Among}
 use Rattle.world.specs.Worlds.{store_of}
 use Rattle.world.specs.Histories.{MadeV, IssuedV, Trace, Change}
-use Rattle.world.proofs.Grow.{get_pushed, among_last, among_more, among_map, once_same}
+use Rattle.mds_base.proofs.Grow.{get_pushed, among_last, among_more, among_map, once_same}
 use Rattle.node_core.proofs.Keys.{same_or_apart}
 use Rattle.world.proofs.Choices.{nat_or_apart, three_or_apart, pair_same, judged_new}
 use Rattle.world.proofs.Stores.{store_was}

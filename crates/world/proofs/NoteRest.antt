@@ -17,10 +17,10 @@ use Rattle.node_core.specs.Rules.{said_in, said_of}
 use Rattle.node_core.specs.Serving.{carried}
 use Rattle.node_core.proofs.Views.{noted_server, noted_setup, noted_next}
 use Rattle.world.specs.declared.state.ServerState.{ServerState}
-use Rattle.world.specs.Lists.{Among}
+use Rattle.mds_base.specs.Lists.{Among}
 use Rattle.world.specs.Worlds.{store_of}
 use Rattle.world.specs.Histories.{MadeV, Trace, Change, entries_of, IsOfIssue}
-use Rattle.world.proofs.Grow.{among_more, each_push, each_map, each_set, once_push, length_set, within}
+use Rattle.mds_base.proofs.Grow.{among_more, each_push, each_map, each_set, once_push, length_set, within}
 use Rattle.world.proofs.Choices.{nat_or_apart}
 use Rattle.world.proofs.Stores.{store_here, store_apart}
 use Rattle.world.proofs.Tables.{allowed_change, given_change}

@@ -12,7 +12,8 @@ use Rattle.sessions.specs.declared.kept.Judged.TheVariants.{New, Again, Old}
 use Rattle.sessions.specs.Kept.{judge_kept}
 use Rattle.node_core.specs.Nodes.{StoreV, owns, has_numbers, row_in, session_in, server_for}
 use Rattle.node_core.specs.Rules.{Asked, ChangeOf, LookOf, NotServed, asked_of, said_in, found, Outcome, Silent, Looks, Repeats, Carries, by_judged, outcome_of, outcome}
-use Rattle.node_core.specs.Serving.{same_final, final_tag, carries, may_follow, part_at, ask_of}
+use Rattle.mds_base.proofs.Finals.{same_final_self}
+use Rattle.node_core.specs.Serving.{carries, may_follow, part_at, ask_of}
 use Rattle.world.proofs.Choices.{judged_again}
 
 pub record LooksTrue (store : StoreV) (ask : Ask) (now : ℕ) (reply : Reply) : Type 0 where
@@ -69,9 +70,6 @@ outcome_at store ask now NotServed e = tt
 
 pub outcome_true : (store : StoreV) (ask : Ask) (now : ℕ) → OutcomeTrue store ask now (outcome store ask now)
 outcome_true store ask now = outcome_at store ask now (asked_of ask.call) refl
-
-same_final_self : (said : Final) → same_final said said ≡ true
-same_final_self said = and_from ((final_tag said).0 == (final_tag said).0) ((final_tag said).1 == (final_tag said).1) (eq-eqb (final_tag said).0 (final_tag said).0 refl) (eq-eqb (final_tag said).1 (final_tag said).1 refl)
 
 pub owner_of : (store : StoreV) (dir servers s : ℕ) → owns store.node dir 0 ≡ true → store.node.setup.servers ≡ servers → store.node.server ≡ s → server_for servers dir 0 ≡ s
 owner_of store dir servers s owner e f =

@@ -12,7 +12,7 @@ use Rattle.world.specs.Worlds.{store_of}
 use Rattle.world.specs.Events.{up_with}
 use Rattle.world.specs.Histories as past
 use Rattle.world.specs.Histories.{History, Trace, changed}
-use Rattle.world.proofs.Grow.{set_here, set_twice}
+use Rattle.mds_base.proofs.Grow.{set_here, set_twice}
 use Rattle.world.proofs.Invariant.{Inv, MayServe, Follows}
 use Rattle.world.proofs.Steps.{note_at, noted_state}
 use Rattle.world.proofs.Servers.{redo_keeps, up_keeps}

@@ -19,10 +19,10 @@ use Rattle.node_core.specs.Nodes.{StoreV, server_for, row_in, session_in}
 use Rattle.node_core.specs.Rules.{ChangeOf, asked_of, found}
 use Rattle.sessions.specs.Kept.{seq_of}
 use Rattle.world.specs.declared.state.ServerState.{ServerState}
-use Rattle.world.specs.Lists.{Each, Among}
+use Rattle.mds_base.specs.Lists.{Each, Among}
 use Rattle.world.specs.Worlds.{store_of}
 use Rattle.world.specs.Histories.{MadeV, Trace, Kind, Change, Looked, entries_of, IsOfIssue}
-use Rattle.world.proofs.Grow.{get_front, get_last, get_pushed, among_more, among_last, among_map, each_push, each_map, once_push, within}
+use Rattle.mds_base.proofs.Grow.{get_front, get_last, get_pushed, among_more, among_last, among_map, each_push, each_map, once_push, within}
 use Rattle.world.proofs.Stores.{store_was}
 use Rattle.world.proofs.Tables.{allowed_look, given_look, after_look}
 use Rattle.world.proofs.Legal.{entries_push, given_push, legal_push, map_push}

@@ -12,7 +12,7 @@ use Rattle.node_core.specs.Serving.{carried, carried_at}
 use Rattle.world.specs.declared.state.ServerState.{ServerState}
 use Rattle.world.specs.Worlds.{store_of}
 use Rattle.world.specs.Histories.{Trace}
-use Rattle.world.proofs.Grow.{each_map, each_set, length_set}
+use Rattle.mds_base.proofs.Grow.{each_map, each_set, length_set}
 use Rattle.world.proofs.Choices.{nat_or_apart}
 use Rattle.world.proofs.Stores.{store_was, store_here, store_apart}
 use Rattle.world.proofs.Tables.{one_place}

@@ -17,12 +17,12 @@ use Rattle.node_core.specs.Serving.{ServedV, served_as, answer_to, carried_at, p
 use Rattle.world.specs.declared.event.ServeEnd.{ServeEnd}
 use Rattle.world.specs.declared.event.ServeEnd.TheVariants as ends
 use Rattle.world.specs.declared.state.ServerState.{ServerState}
-use Rattle.world.specs.Lists.{Among}
+use Rattle.mds_base.specs.Lists.{Among}
 use Rattle.world.specs.Worlds.{store_of, with_store}
 use Rattle.world.specs.Events.{set_server, say, after_serve_of}
 use Rattle.world.specs.Histories as past
 use Rattle.world.specs.Histories.{History, Trace, MadeV, Change, changed, counted}
-use Rattle.world.proofs.Grow.{set_same, among_last, among_map}
+use Rattle.mds_base.proofs.Grow.{set_same, among_last, among_map}
 use Rattle.world.proofs.Invariant.{Inv, MayCarry, AsksFor, store_in}
 use Rattle.world.proofs.Steps.{note_at, with_server, with_msg, look_at, found_at, IsToldOf}
 use Rattle.world.proofs.Say.{tell_keeps, look_keeps}

@@ -18,14 +18,14 @@ use Rattle.client_core.specs.declared.client.Pending.{Pending}
 use Rattle.client_core.specs.Clients.{new_client, zero_bits}
 use Rattle.world.specs.declared.state.ServerState.{ServerState}
 use Rattle.world.specs.declared.state.ClientState.{ClientState}
-use Rattle.world.specs.Lists.{Each, OnceBy}
+use Rattle.mds_base.specs.Lists.{Each, OnceBy}
 use Rattle.world.specs.Worlds.{store_of, new_server, new_seat, fresh_world}
 use Rattle.world.specs.Histories.{Trace}
 use Rattle.world.specs.Law.{row_or, row_at, start_trace, new_servers, opened}
 use Rattle.world.proofs.Happens.{same_key}
-use Rattle.world.proofs.Filters.{or_cases}
+use Rattle.std.proofs.lemmas.Bool.{or_cases}
 use Rattle.world.proofs.Invariant.{Inv, IsServer, IsClient, AreKept, IsWithinRange, Follows, store_in, store_or}
-use Rattle.world.proofs.Grow.{within}
+use Rattle.mds_base.proofs.Grow.{within}
 use Rattle.world.proofs.Stores.{store_was}
 
 pub record IsStartServer (setup : Setup) (s : ℕ) (state : ServerState) : Type 0 where

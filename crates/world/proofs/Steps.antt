@@ -23,7 +23,7 @@ use Rattle.mds_base.specs.Calls.{dir_of}
 use Rattle.client_core.specs.Taking.{closed}
 use Rattle.world.specs.declared.state.ServerState.{ServerState}
 use Rattle.world.specs.declared.state.ClientState.{ClientState}
-use Rattle.world.specs.Lists.{Among}
+use Rattle.mds_base.specs.Lists.{Among}
 use Rattle.world.specs.Worlds.{store_of}
 use Rattle.world.specs.Events.{is_call}
 use Rattle.world.specs.Histories.{MadeV, Trace, Change, changed, looked, counted}

@@ -4,7 +4,7 @@ use Rattle.std.specs.Prelude.{slice_set}
 use Rattle.std.specs.List.{slice_get}
 use Rattle.world.specs.declared.state.ServerState.{ServerState}
 use Rattle.world.specs.Worlds.{store_of}
-use Rattle.world.proofs.Grow.{set_here, set_apart}
+use Rattle.mds_base.proofs.Grow.{set_here, set_apart}
 use Rattle.world.proofs.Invariant.{store_in, store_or}
 
 pub store_was : (servers : List ServerState) (s : ℕ) (state : ServerState) → slice_get servers s ≡ Some state → store_in servers s ≡ store_of state

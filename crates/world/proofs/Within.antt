@@ -24,11 +24,11 @@ use Rattle.client_core.specs.Taking.{take, take_at, answered_if, busy_if, held_i
 use Rattle.client_core.specs.Taking as taking
 use Rattle.world.specs.declared.state.ServerState.{ServerState}
 use Rattle.world.specs.declared.state.ClientState.{ClientState}
-use Rattle.world.specs.Lists.{Each}
+use Rattle.mds_base.specs.Lists.{Each}
 use Rattle.world.specs.Ranges.{IsSetup, AreRanges, PendingFits}
 use Rattle.world.specs.Worlds.{WorldV, store_of, new_server, new_seat}
 use Rattle.world.specs.Events.{is_dir, is_call, is_open, seat_at, is_for_server, can_issue, can_resend, can_take, can_serve}
-use Rattle.world.proofs.Grow.{each_push, each_set}
+use Rattle.mds_base.proofs.Grow.{each_push, each_set}
 use Rattle.world.proofs.Starts.{ranged}
 use Rattle.world.proofs.Stepped.{item_is, seat_place}
 

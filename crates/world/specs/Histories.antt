@@ -29,7 +29,7 @@ use Rattle.world.specs.declared.event.ServeEnd.{ServeEnd}
 use Rattle.world.specs.declared.event.ServeEnd.TheVariants as ends
 use Rattle.world.specs.declared.state.ServerState.{ServerState}
 use Rattle.world.specs.declared.state.ClientState.{ClientState}
-use Rattle.world.specs.Lists.{Each, Among, OnceBy}
+use Rattle.mds_base.specs.Lists.{Each, Among, OnceBy}
 use Rattle.world.specs.Worlds.{WorldV, store_of}
 use Rattle.world.specs.Events.{step, seat_at, msgs_at}
 

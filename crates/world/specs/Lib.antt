@@ -1,4 +1,3 @@
-pub mod Lists
 pub mod Worlds
 pub mod Ranges
 pub mod Events

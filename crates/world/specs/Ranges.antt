@@ -7,7 +7,7 @@ use Rattle.client_core.specs.declared.client.Pending.{Pending}
 use Rattle.mds_base.specs.Calls.{dir_of}
 use Rattle.world.specs.declared.state.ServerState.{ServerState}
 use Rattle.world.specs.declared.state.ClientState.{ClientState}
-use Rattle.world.specs.Lists.{Each}
+use Rattle.mds_base.specs.Lists.{Each}
 
 -- what a run may be started with
 pub record IsSetup (setup : Setup) : Type 0 where

@@ -3,7 +3,7 @@ ghost use Rattle.std.specs.FinMap as map;
 ghost use Rattle.node_core.specs.Nodes.{has_numbers};
 ghost use Rattle.node_core.specs.Serving.{serve, replayed_all, restarted};
 ghost use Rattle.node_core.specs.Ranges.{DirFits, RecordFits};
-ghost use Rattle.world.specs.Lists.{Each};
+ghost use Rattle.mds_base.specs.Lists.{Each};
 ghost use Rattle.world.specs.Worlds.{new_server, new_seat, store_of, with_store};
 ghost use Rattle.world.specs.Events.{up_with};
 
