@@ -10,7 +10,8 @@ use Rattle.sessions.specs.Kept.{judge_kept}
 use Rattle.node_core.specs.Nodes.{StoreV, owns, has_numbers, session_in}
 use Rattle.node_core.specs.Rules.{Asked, ChangeOf, LookOf, NotServed, asked_of, said_in, Outcome, Silent, Looks, Repeats, Carries, outcome_of, outcome}
 use Rattle.node_core.specs.Serving.{serve, served_as, carries, carried_at, part_at, replayed_all, may_carry}
-use Rattle.node_core.proofs.Replayed.{owned_of, same_final_self, follows_so}
+use Rattle.mds_base.proofs.Finals.{same_final_self}
+use Rattle.node_core.proofs.Replayed.{owned_of, follows_so}
 
 -- a message that looks carries nothing out
 pub no_look : (b : Bool) (reply : Reply) (said : Final) → cond b (Looks reply) Silent ≡ Carries said → ⊥
