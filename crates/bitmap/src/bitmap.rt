@@ -14,8 +14,8 @@ use crate::span::Span;
 use crate::words::{
     WORDS, depth_in, has_bit, join, least_lacking, least_missing, locate_in, power, set_bit,
 };
+use chains::reverse;
 use mds_base::RADIX;
-use name_hash::{chain_next, reverse};
 use std::marker::Model;
 
 /// Which partitions of a directory exist, as far as the holder knows: a well-formed set of numbers below

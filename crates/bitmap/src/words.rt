@@ -6,8 +6,8 @@ ghost use Rattle.chains.specs.Depth.{depth_of, IsDepth};
 ghost use Rattle.bitmap.specs.Bits.{has, IsLeastLacking};
 ghost use Rattle.bitmap.specs.Words.{IsWhole, set_of};
 
+use chains::chain_next;
 use mds_base::RADIX;
-use name_hash::chain_next;
 
 /// How many words spell a bitmap: their bits are `2 ^ RADIX`.
 pub const WORDS: usize = 16;
@@ -106,7 +106,7 @@ pub fn locate_in(words: &[u64; WORDS], hash: u64) -> u32
     ensures { result ≡ located RADIX hash (has (set_of words.now)) }
 {
     let mut part = 0;
-    while let Some(next) = chain_next(hash, part) {
+    while let Some(next) = chain_next(RADIX, hash, part) {
         if !has_bit(words, next) {
             return part;
         }

@@ -6,3 +6,5 @@ pub mod Remainders
 pub mod Reversals
 pub mod RunLengths
 pub mod Sets
+pub mod Steps
+pub mod Turns

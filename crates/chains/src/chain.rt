@@ -2,7 +2,22 @@ ghost use Rattle.std.specs.Prelude.{◌≡◌, ℕ, suc, ◌+◌, ◌%◌, ◌^�
 ghost use Rattle.std.specs.Int.{bit_at};
 ghost use Rattle.std.specs.List.{Contains};
 ghost use Rattle.std.specs.List.Sorted.{IsStrictlyIncreasing};
-ghost use Rattle.chains.specs.Chain.{chain_of, OnChain, IsLastOnChain, IsNextOnChain};
+ghost use Rattle.chains.specs.Chain.{chain_of, OnChain, FollowsOnChain, IsLastOnChain, IsNextOnChain};
+
+/// The element after `part` on the chain of `hash`, of which `part` has to be an element, and None exactly at
+/// the chain's end (`docs/DEFINITIONS.md`, "Chain"). In constant time.
+pub fn chain_next(radix: u32, hash: u64, part: u32) -> Option<u32>
+    requires fits { radix ≤ 32 }
+    requires on { OnChain radix hash part }
+    ensures { FollowsOnChain radix hash part result }
+{
+    // What the hash has past `part`: its lowest bit is the one that the next element adds.
+    let rest = (hash % (1 << radix)) as u32 - part;
+    if rest == 0 {
+        return None;
+    }
+    Some(part + (1 << rest.trailing_zeros()))
+}
 
 /// The laws of chains (`docs/DEFINITIONS.md`, "Chain"), for every radix and hash.
 pub fn laws_of_chains()

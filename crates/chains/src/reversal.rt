@@ -4,6 +4,29 @@ ghost use Rattle.chains.specs.WellFormed.{IsWellFormed};
 ghost use Rattle.chains.specs.Located.{located};
 ghost use Rattle.chains.specs.Depth.{depth_of, HasNoChildrenFrom};
 ghost use Rattle.chains.specs.Reversed.{reversed, first_of, last_of, IsInSpan};
+ghost use Rattle.chains.specs.Swapped.{swapped};
+
+/// The number with the bits of a mask and those `by` above them in each other's places.
+#[inline]
+fn swap(n: u64, by: u32, mask: u64) -> u64
+    requires { by < 64 }
+    ensures { result ≡ swapped by mask n }
+{
+    ((n >> by) & mask) | ((n & mask) << by)
+}
+
+/// The number with its 64 bits in the opposite order (`docs/DEFINITIONS.md`, "Reversed hash").
+pub fn reverse(n: u64) -> u64
+    ensures { result ≡ reversed 64 n }
+{
+    // Neighbours first, then pairs, and so on up to the halves.
+    let n = swap(n, 1, 0x5555_5555_5555_5555);
+    let n = swap(n, 2, 0x3333_3333_3333_3333);
+    let n = swap(n, 4, 0x0f0f_0f0f_0f0f_0f0f);
+    let n = swap(n, 8, 0x00ff_00ff_00ff_00ff);
+    let n = swap(n, 16, 0x0000_ffff_0000_ffff);
+    swap(n, 32, 0x0000_0000_ffff_ffff)
+}
 
 /// The laws of hashes with their bits in the opposite order (`docs/DEFINITIONS.md`, "Reversed hash"), for every
 /// width.

@@ -1,4 +1,3 @@
 pub mod NameHash
 pub mod ScanOrder
-pub use Rattle.chains.specs.Chain
 pub use Rattle.chains.specs.Reversed

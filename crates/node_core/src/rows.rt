@@ -4,8 +4,9 @@ ghost use Rattle.node_core.specs.Nodes.{row_key, edited_rows};
 ghost use Rattle.node_core.specs.Edits.{edit_of};
 
 use crate::part::Edit;
+use chains::reverse;
 use mds_base::{Name, RowKey, Rows, RowsFault};
-use name_hash::{hash, reverse};
+use name_hash::hash;
 use std::alloc::{AllocError, Global};
 
 /// Where the row of a name stands in partition 0 of a directory.
