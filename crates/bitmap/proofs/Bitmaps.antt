@@ -1,5 +1,5 @@
 -- What the calls of a bitmap do to the set that it stands for.
-use Rattle.std.proofs.Common.{◌≡◌, ℕ, zero, suc, ◌+◌, ◌-◌, ◌*◌, ◌/◌, ◌%◌, ◌^◌, ◌<◌, ◌≤◌, ◌⊎◌, ◌↔◌, ◌==◌, ◌&&◌, ◌||◌, nat_lt, inl, inr, Bool, true, false, IsTrue, List, slice_index, get_or, replicate, sym, refl, ap, ap₂, ◌∙◌, subst, arith, pow-suc, pow_pos, pow_mono, w32}
+use Rattle.std.proofs.Common.{◌≡◌, ℕ, zero, suc, ◌+◌, ◌-◌, ◌*◌, ◌/◌, ◌%◌, ◌^◌, ◌<◌, ◌≤◌, ◌↔◌, ◌==◌, ◌&&◌, ◌||◌, nat_lt, inl, inr, Bool, true, false, IsTrue, List, slice_index, get_or, replicate, sym, refl, ap, ap₂, ◌∙◌, subst, arith, pow-suc, pow_pos, pow_mono, w32}
 use Rattle.std.proofs.Math.Path.{fun_ext}
 use Rattle.std.specs.FinSet as set
 use Rattle.std.specs.Ordering.{nat_cmp}
@@ -46,40 +46,6 @@ union_grows_at {r} s b o new same f g is h =
     omega (arith, step, from, to)
 
 -- ---- a child more
-
--- what a child requires and is missing
-pub lacking_parent : (bits : Bits) (p d : ℕ) → has bits p ≡ false → IsLeastLacking bits p d p
-lacking_parent bits p d lacks = record {
-  lacks = lacks;
-  required = inl refl;
-  least = λ x yet need. elim need [ inl e ↦ omega arith | inr w ↦ omega (arith, w.3) ];
-}
-
-pub first_child_lacks_none : (bits : Bits) (p d : ℕ) → IsTrue (has bits p) → (d ≡ 0) ⊎ (2 ^ (d - 1) ≤ p) → (m : ℕ) → IsRequiredBy p d m → IsTrue (has bits m)
-first_child_lacks_none bits p d yet none m (inl e) = ap (has bits) e ∙ yet
-first_child_lacks_none bits p d yet (inl none) m (inr (j, next, low, e)) = absurd (omega arith)
-first_child_lacks_none bits p d yet (inr none) m (inr (j, next, low, e)) =
-    let same : d - 1 ≡ j = omega arith in
-    absurd (omega (arith, ap (λ k. 2 ^ k) same))
-
-pub later_child_lacks_none : (bits : Bits) (p d : ℕ) → IsTrue (has bits p) → IsTrue (has bits (p + 2 ^ (d - 1))) → (m : ℕ) → IsRequiredBy p d m → IsTrue (has bits m)
-later_child_lacks_none bits p d yet before m (inl e) = ap (has bits) e ∙ yet
-later_child_lacks_none bits p d yet before m (inr (j, next, low, e)) =
-    let same : j ≡ d - 1 = omega arith in
-    ap (has bits) (e ∙ ap (λ k. p + 2 ^ k) same) ∙ before
-
-pub lacking_before : (bits : Bits) (p d : ℕ) → (d ≡ 0 → ⊥) → p < 2 ^ (d - 1) → IsTrue (has bits p) → has bits (p + 2 ^ (d - 1)) ≡ false → IsLeastLacking bits p d (p + 2 ^ (d - 1))
-lacking_before bits p d deep low yet lacks = record {
-  lacks = lacks;
-  required = inr (d - 1, omega arith, low, refl);
-  least = λ x none need.
-      elim need [
-        | inl e ↦ absurd (true≢false (sym yet ∙ (ap (has bits) (sym e) ∙ none)))
-        | inr w ↦
-            let same : w.0 ≡ d - 1 = omega (arith, w.1) in
-            omega (arith, w.3, ap (λ k. 2 ^ k) same)
-      ];
-}
 
 pub refused : {r : ℕ} (s b : Bits) → s ≡ b → IsWellFormed r (has s) → (p d m : ℕ) → p < 2 ^ d → d < r → IsLeastLacking s p d m → IsWellFormed r (has (set.insert b (p + 2 ^ d))) → ⊥
 refused {r} s b is f p d m low deep w g =

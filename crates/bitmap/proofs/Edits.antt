@@ -1,12 +1,12 @@
 -- What reads and writes of words do to the set that they spell.
-use Rattle.std.proofs.Common.{◌≡◌, ℕ, zero, suc, ◌*◌, ◌/◌, ◌%◌, ◌^◌, ◌<◌, ◌≤◌, ◌==◌, ◌&&◌, ◌||◌, nat_eq, nat_lt, inl, inr, Bool, false, List, length, slice_index, get_or, set as put, bit_and, bit_or, max, sym, refl, ap, ap₂, ◌∙◌, subst, arith, pow_pos, mod-lt, lit<, get_or-set_other, get_or-set_same, length-set, pow_mono}
+use Rattle.std.proofs.Common.{◌≡◌, ℕ, zero, suc, ◌*◌, ◌/◌, ◌%◌, ◌^◌, ◌<◌, ◌≤◌, ◌==◌, ◌&&◌, ◌||◌, nat_eq, nat_lt, inl, inr, Bool, false, List, length, slice_index, get_or, set as put, bit_and, bit_or, max, sym, refl, ap, ap₂, ◌∙◌, subst, arith, pow_pos, mod-lt, lit<, get_or-set_other, get_or-set_same, length-set}
 use Rattle.std.proofs.lemmas.List.{get_or_past}
 use Rattle.std.specs.FinSet as set
 use Rattle.std.specs.Int.{bit_at}
 use Rattle.std.proofs.lemmas.Bool.{cases_lt, cases_eq, lt-ltb, le-ltb, eq-eqb, ne_eqb}
 use Rattle.std.proofs.lemmas.Nat.{mod_below, or_lt, div_below}
 use Rattle.std.proofs.lemmas.Nat.Bits.{bit_at-lt, bit_at_or, bit_at_set_same, bit_at_set_other, shr_and_one}
-use Rattle.chains.specs.WellFormed.{with_number, union_of, IsRequired, IsMissing}
+use Rattle.chains.specs.WellFormed.{with_number, union_of}
 use Rattle.bitmap.specs.Bits.{has}
 use Rattle.bitmap.specs.Words.{word_count, word_bits, word_width, IsWhole, bit_of, set_of}
 use Rattle.bitmap.specs.BitSetLaws.{has_with, has_union, same_bits}
@@ -22,7 +22,7 @@ bit_inside : (words : List ℕ) (i : ℕ) → i < bit_count → bit_of words i �
 unfolding bit_of
 bit_inside words i lt = ap (λ b. b && raw words i) (lt-ltb i bit_count lt)
 
-bit_past : (words : List ℕ) (i : ℕ) → bit_count ≤ i → bit_of words i ≡ false
+pub bit_past : (words : List ℕ) (i : ℕ) → bit_count ≤ i → bit_of words i ≡ false
 unfolding bit_of
 bit_past words i le = ap (λ b. b && raw words i) (le-ltb i bit_count le)
 
@@ -160,12 +160,3 @@ whole_joined new old more each count a b = record {
         | inr past ↦ subst P (sym (get_or_past new k 0 (omega arith))) (pow_pos word_bits)
       ];
 }
-
--- ---- what is missing
-
-required_below : {r : ℕ} (b : ℕ → Bool) (m : ℕ) → IsRequired r b m → m < 2 ^ r
-required_below {r} b m (inl e) = omega (arith, e, pow_pos r)
-required_below {r} b m (inr (j, deep, low, yet)) = omega (arith, low, pow_mono {i = suc j} {j = r} deep)
-
-pub none_missing : {r : ℕ} {b : ℕ → Bool} (n : ℕ) → 2 ^ r ≤ n → ((m : ℕ) → m < n → IsMissing r b m → ⊥) → (m : ℕ) → IsMissing r b m → ⊥
-none_missing {r} {b} n all none m lacks = none m (omega (arith, required_below b m lacks.1)) lacks

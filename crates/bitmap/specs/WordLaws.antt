@@ -149,7 +149,7 @@ word_digit zero lt = refl
 word_digit (suc zero) lt = refl
 word_digit (suc (suc x)) lt = absurd (omega arith)
 
-place_bit : (words : List ℕ) (k i : ℕ) → k < word_count → i < word_bits → bit_of words (k * word_bits + i) ≡ (bit_at (slice_index words k) i == 1)
+pub place_bit : (words : List ℕ) (k i : ℕ) → k < word_count → i < word_bits → bit_of words (k * word_bits + i) ≡ (bit_at (slice_index words k) i == 1)
 unfolding bit_of
 place_bit words k i row low =
     ap (λ b. b && (bit_at (slice_index words ((k * word_bits + i) / word_bits)) ((k * word_bits + i) % word_bits) == 1))

@@ -1,6 +1,6 @@
 -- The words that spell a bitmap. Their sizes are the one number here that goes with the radix: there are
 -- 2 ^ radix bits.
-use Rattle.std.specs.Prelude.{◌≡◌, ℕ, zero, suc, ◌+◌, ◌*◌, ◌/◌, ◌%◌, ◌^◌, ◌<◌, ◌==◌, ◌&&◌, nat_lt, Bool, List, map, length, slice_index, if◌then◌else◌}
+use Rattle.std.specs.Prelude.{◌≡◌, ℕ, zero, suc, ◌+◌, ◌*◌, ◌/◌, ◌%◌, ◌^◌, ◌<◌, ◌==◌, ◌&&◌, ◌↔◌, nat_lt, Bool, List, map, length, slice_index, if◌then◌else◌}
 use Rattle.std.specs.List.{range_with_len}
 use Rattle.std.specs.Int.{bit_at, Width, w64}
 use Rattle.std.specs.FinSet as set
@@ -31,6 +31,10 @@ bit_of words i =
 unfoldable pub passing : (ℕ → Bool) → ℕ → Bits
 passing test zero = set.empty
 passing test (suc n) = if test n then set.insert (passing test n) n else passing test n
+
+-- the bits of one word say which of the numbers from `first` on have a property
+pub record SpellsFrom (property : ℕ → Type 0) (first word : ℕ) : Type 0 where
+  pub at : (i : ℕ) → i < word_bits → (bit_at word i ≡ 1) ↔ property (first + i)
 
 -- the set that words spell
 unfoldable pub set_of : List ℕ → Bits

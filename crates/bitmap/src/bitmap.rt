@@ -10,10 +10,9 @@ ghost use Rattle.bitmap.specs.Span.{range_of, IsInside, IsHalved, SplitsAt};
 ghost use Rattle.bitmap.specs.Words.{set_of, words_of};
 
 use crate::fault::{BadBitmap, NoParent};
+use crate::missing::least_missing;
 use crate::span::Span;
-use crate::words::{
-    WORDS, depth_in, has_bit, join, least_lacking, least_missing, locate_in, power, set_bit,
-};
+use crate::words::{WORDS, depth_in, has_bit, join, least_lacking, locate_in, power, set_bit};
 use chains::reverse;
 use mds_base::RADIX;
 use std::marker::Model;

@@ -10,6 +10,7 @@
 mod bitmap;
 mod fault;
 mod laws;
+mod missing;
 mod span;
 mod words;
 

@@ -1,6 +1,6 @@
-ghost use Rattle.std.specs.Prelude.{◌≡◌, ℕ, ◌^◌, ◌<◌, ◌↔◌, MatchOption, IsTrue};
+ghost use Rattle.std.specs.Prelude.{◌≡◌, ℕ, ◌^◌, ◌<◌, MatchOption, IsTrue};
 ghost use Rattle.std.specs.FinSet as set;
-ghost use Rattle.chains.specs.WellFormed.{IsWellFormed, IsRequired, IsMissing, IsLeastMissing, IsRequiredBy};
+ghost use Rattle.chains.specs.WellFormed.{IsWellFormed, IsRequiredBy};
 ghost use Rattle.chains.specs.Located.{located};
 ghost use Rattle.chains.specs.Depth.{depth_of, IsDepth};
 ghost use Rattle.bitmap.specs.Bits.{has, IsLeastLacking};
@@ -13,7 +13,7 @@ use mds_base::RADIX;
 pub const WORDS: usize = 16;
 
 /// How many bits a word has.
-const WORD_BITS: u32 = 64;
+pub const WORD_BITS: u32 = 64;
 
 /// How many partitions a directory may have.
 const PARTS: u32 = 1 << RADIX;
@@ -50,33 +50,6 @@ pub fn join(words: &mut [u64; WORDS], more: &[u64; WORDS])
     for i in 0..WORDS {
         words[i] |= more[i];
     }
-}
-
-/// Whether a well-formed bitmap with these bits has to have this one.
-fn is_required(words: &[u64; WORDS], bit: u32) -> bool
-    ensures { IsTrue result ↔ IsRequired RADIX (has (set_of words.now)) bit }
-{
-    if bit == 0 {
-        return true;
-    }
-    for depth in 0..RADIX {
-        if bit < power(depth + 1) && has_bit(words, bit + power(depth)) {
-            return true;
-        }
-    }
-    false
-}
-
-/// The least bit that a well-formed bitmap with these bits has to have and that is not set.
-pub fn least_missing(words: &[u64; WORDS]) -> Option<u32>
-    ensures { MatchOption result ((m : ℕ) → IsMissing RADIX (has (set_of words.now)) m → ⊥) (IsLeastMissing RADIX (has (set_of words.now))) }
-{
-    for bit in 0..PARTS {
-        if !has_bit(words, bit) && is_required(words, bit) {
-            return Some(bit);
-        }
-    }
-    None
 }
 
 /// The least partition that the child of `part` at this depth requires and that is missing.

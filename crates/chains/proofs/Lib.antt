@@ -6,5 +6,6 @@ pub mod Remainders
 pub mod Reversals
 pub mod RunLengths
 pub mod Sets
+pub mod Shifts
 pub mod Steps
 pub mod Turns

@@ -1,31 +1,25 @@
 -- Six steps, each of which lets the bits of a mask and those above them change places, turn 64 bits round.
-use Rattle.std.proofs.Common.{◌≡◌, ◌∙◌, sym, ap, refl, ℕ, zero, suc, ◌+◌, ◌-◌, ◌*◌, ◌/◌, ◌%◌, ◌^◌, ◌<◌, ◌≤◌, ◌==◌, ◌&&◌, ◌||◌, nat_lt, nat_le, Bool, true, min, bit_and, arith, pow_pos, inl, inr, add-zero, lit<}
+use Rattle.std.proofs.Common.{◌≡◌, ◌∙◌, sym, ap, refl, ℕ, zero, suc, ◌+◌, ◌-◌, ◌*◌, ◌/◌, ◌%◌, ◌^◌, ◌<◌, ◌≤◌, ◌==◌, ◌&&◌, ◌||◌, nat_lt, nat_le, Bool, true, min, bit_and, arith, pow_pos, inl, inr, lit<}
 use Rattle.std.proofs.lemmas.Bool.{cases_lt, agree_below_at, eqb-true, and_parts, leb-true}
-use Rattle.std.proofs.lemmas.Nat.{shr-shr, shr_split, or_lt, and_le_r, mod_below}
-use Rattle.std.proofs.lemmas.Nat.Bits.{bit_at-lt, bit_at_cat_low, bit_at_cat_high, bit_at-zero, bit_at_and, bit_at_or, same_from_bits_below}
+use Rattle.std.proofs.lemmas.Nat.{or_lt, and_le_r, mod_below}
+use Rattle.std.proofs.lemmas.Nat.Bits.{bit_at-lt, bit_at_and, bit_at_or, same_from_bits_below}
 use Rattle.std.specs.Int.{bit_at}
 use Rattle.chains.specs.Reversed.{reversed}
 use Rattle.chains.specs.Swapped.{swapped}
 use Rattle.chains.proofs.Reversals.{reversed_below, reversed_bit}
+use Rattle.chains.proofs.Shifts.{bit_at_shr, bit_at_shl_low, bit_at_shl_high}
 
 -- ---- one step, at one bit
 
-low_bit : (n k i : ℕ) → i < k → bit_at (n % 2 ^ k) i ≡ bit_at n i
-low_bit n k i lt = sym (bit_at_cat_low (n / 2 ^ k) k (n % 2 ^ k) i lt) ∙ ap (λ x. bit_at x i) (shr_split n k)
-
 upper : (by mask n i : ℕ) → bit_at (bit_and (n / 2 ^ by) mask) i ≡ min (bit_at n (by + i)) (bit_at mask i)
-upper by mask n i = bit_at_and (n / 2 ^ by) mask i ∙ ap (λ x. min (x % 2) (bit_at mask i)) (shr-shr n by i)
+upper by mask n i = bit_at_and (n / 2 ^ by) mask i ∙ ap (λ x. min x (bit_at mask i)) (bit_at_shr n by i)
 
 lower_none : (by x i : ℕ) → i < 64 → i < by → bit_at (x * 2 ^ by % 2 ^ 64) i ≡ 0
-lower_none by x i within lt =
-    low_bit (x * 2 ^ by) 64 i within
-    ∙ (ap (λ y. bit_at y i) (sym (add-zero (x * 2 ^ by))) ∙ (bit_at_cat_low x by 0 i lt ∙ bit_at-zero i))
+lower_none by x i within lt = bit_at_shl_low 64 x by i within lt
 
 lower_some : (by mask n i : ℕ) → i < 64 → by ≤ i → bit_at (bit_and n mask * 2 ^ by % 2 ^ 64) i ≡ min (bit_at n (i - by)) (bit_at mask (i - by))
 lower_some by mask n i within le =
-    let x = bit_and n mask in
-    low_bit (x * 2 ^ by) 64 i within
-    ∙ (ap (λ y. bit_at y i) (sym (add-zero (x * 2 ^ by))) ∙ (bit_at_cat_high x by 0 i (pow_pos by) le ∙ bit_at_and n mask (i - by)))
+    bit_at_shl_high 64 (bit_and n mask) by i within le ∙ bit_at_and n mask (i - by)
 
 -- where the bit at i comes from, by the mask's bit there
 abbrev turned_by : ℕ → ℕ → ℕ → ℕ
