@@ -1,5 +1,5 @@
 -- Lines that are printed are read back.
-use Rattle.std.proofs.Common.{◌≡◌, ◌∙◌, sym, ap, subst, refl, ℕ, ◌+◌, ◌*◌, ◌<◌, ◌≤◌, ◌^◌, ◌/◌, ◌%◌, List, [], ◌∷◌, ◌++◌, map, Bool, true, false, not, cond, arith, decimal, nat_le, IsTrue, inl, inr}
+use Rattle.std.proofs.Common.{◌≡◌, ◌∙◌, sym, ap, subst, refl, ℕ, ◌+◌, ◌*◌, ◌<◌, ◌≤◌, ◌^◌, ◌/◌, ◌%◌, List, [], ◌∷◌, ◌++◌, map, Bool, true, false, not, cond, arith, decimal, nat_le, Option, Some, None, IsTrue, inl, inr}
 use Rattle.std.specs.Prelude.{◌==◌, ◌&&◌}
 use Rattle.std.specs.List.{list_all, join_with_byte, AllByRecursion}
 use Rattle.std.specs.Char.{digit_value}
@@ -9,6 +9,7 @@ use Rattle.std.proofs.lemmas.Fmt.{decimal_by_steps}
 use Rattle.std.proofs.lemmas.List.{append-nil}
 use Rattle.std.proofs.lemmas.List.Folds.{list_all-append}
 use Rattle.mds_base.specs.Name.{is_name}
+use Rattle.mds_base.specs.declared.attr.Stamp.{Stamp}
 use Rattle.mds_base.specs.declared.call.Call.{Call}
 use Rattle.mds_base.specs.declared.call.Call.TheVariants as calls
 use Rattle.mds_base.specs.declared.setup.Setup.{Setup}
@@ -16,7 +17,7 @@ use Rattle.script.specs.declared.line.Line.{Line}
 use Rattle.script.specs.declared.line.Line.TheVariants as lines
 use Rattle.script.specs.Words.{is_blank, ends_word, onto_first, words_of}
 use Rattle.script.specs.Names.{SpellsByte, SpellsName}
-use Rattle.script.specs.Grammar.{Part, Keyword, Number, Named, AreSpelled, call_parts, line_parts, IsWithin, IsLine}
+use Rattle.script.specs.Grammar.{Part, Keyword, Number, Named, AreSpelled, stamp_parts, call_parts, line_parts, IsWithin, IsLine}
 use Rattle.script.specs.Text.{is_plain_byte, byte_text, name_text, part_text, line_text, IsPrinted, ArePrinted}
 use Rattle.script.proofs.Splitting.{words-blank, words-last, words-more}
 
@@ -141,16 +142,24 @@ is_keyword (Keyword text) = is_word text
 is_keyword (Number number) = true
 is_keyword (Named name) = true
 
+stamp_keywords : (stamp : Option Stamp) → list_all is_keyword (stamp_parts stamp) ≡ true
+stamp_keywords None = refl
+stamp_keywords (Some stamp) = refl
+
 call_keywords : (call : Call) → list_all is_keyword (call_parts call) ≡ true
 call_keywords (calls.Create dir name) = refl
 call_keywords (calls.Mkdir dir name) = refl
 call_keywords (calls.Remove dir name) = refl
 call_keywords (calls.Lookup dir name) = refl
-call_keywords (calls.Setattr dir name mode size) = refl
+call_keywords (calls.Setattr dir name mode size stamp) = stamp_keywords stamp
 call_keywords (calls.Scan dir) = refl
 call_keywords (calls.Grab dir name count) = refl
 call_keywords (calls.Load dir rows) = refl
 call_keywords (calls.Link dir name id) = refl
+call_keywords (calls.Seal dir part epoch) = refl
+call_keywords (calls.Unseal dir part epoch) = refl
+call_keywords (calls.Kill dir epoch) = refl
+call_keywords (calls.Unlink dir name id) = refl
 
 line_keywords : (line : Line) → list_all is_keyword (line_parts line) ≡ true
 line_keywords lines.Skipped = refl

@@ -7,6 +7,7 @@ use Rattle.std.proofs.lemmas.Bool.{and_parts, and_from, leb-true, le-leb, ltb-tr
 use Rattle.std.proofs.lemmas.Option.{cond_some, same_Some}
 use Rattle.std.proofs.lemmas.Slice.Eq.{bytes_eq-Decides}
 use Rattle.mds_base.specs.Name.{is_name}
+use Rattle.mds_base.specs.declared.attr.Stamp.{Stamp}
 use Rattle.mds_base.specs.declared.call.Call.{Call}
 use Rattle.mds_base.specs.declared.call.Call.TheVariants as calls
 use Rattle.mds_base.specs.declared.setup.Setup.{Setup}
@@ -16,9 +17,9 @@ use Rattle.script.specs.declared.verb.Verb.{Verb}
 use Rattle.script.specs.declared.verb.Verb.TheVariants as verbs
 use Rattle.script.specs.declared.verb.CallVerb.{CallVerb}
 use Rattle.script.specs.declared.verb.CallVerb.TheVariants as asked
-use Rattle.script.specs.Grammar.{Part, Keyword, Number, Named, AreSpelled, call_parts, line_parts, IsAsked, IsClient, IsServer, IsWithin}
+use Rattle.script.specs.Grammar.{Part, Keyword, Number, Named, AreSpelled, stamp_parts, call_parts, line_parts, IsStamp, IsAsked, IsClient, IsServer, IsWithin}
 use Rattle.script.specs.Names.{SpellsName}
-use Rattle.script.specs.Reading.{◌>>=◌, number_of, unescaped, checked_name, name_of, verb_text, call_verb_text, each_verb, each_call_verb, verb_of, call_verb_of, word_at, number_at, number_within, server_at, name_at, call_after, call_at, asked_at, call_line, issue_line, retry_line, deliver_line, take_line, tick_line, fuse_line, stop_line, restart_line, line_after, is_end, line_of}
+use Rattle.script.specs.Reading.{◌>>=◌, number_of, unescaped, checked_name, name_of, verb_text, call_verb_text, each_verb, each_call_verb, verb_of, call_verb_of, word_at, number_at, number_within, server_at, name_at, stamp_at, call_after, call_at, asked_at, call_line, issue_line, retry_line, deliver_line, take_line, tick_line, fuse_line, stop_line, restart_line, line_after, is_end, line_of}
 use Rattle.script.proofs.Numerals.{number_is, number_found}
 use Rattle.script.proofs.Unescaping.{name_is, name_found}
 
@@ -97,6 +98,16 @@ call_verb_is asked.Remove = refl
 call_verb_is asked.Lookup = refl
 call_verb_is asked.Setattr = refl
 
+stamp_again : (words : List (List ℕ)) (stamp : Option Stamp) → AreSpelled words (stamp_parts stamp) → IsStamp stamp → Takes (stamp_at words) stamp []
+unfolding stamp_at
+stamp_again [] None s within = record { rest = []; is = refl; later = s }
+stamp_again (word ∷ words) None s within = absurd s
+stamp_again [] (Some stamp) s within = absurd s
+stamp_again (word ∷ words) (Some stamp) s within =
+    let o = within_again 0 (2 ^ 32 - 1) (word ∷ words) stamp.owner (Number stamp.mtime ∷ []) s (omega arith) (omega (arith, within)) in
+    let m = number_again o.rest stamp.mtime [] o.later in
+    record { rest = m.rest; is = rw (o.is, m.is) refl; later = m.later }
+
 -- a call of this verb, up to its name
 placed_again : (verb : CallVerb) (words : List (List ℕ)) (dir : ℕ) (name : List ℕ) (more : List Part) → AreSpelled words (Keyword (call_verb_text verb) ∷ Number dir ∷ Named name ∷ more) → 1 ≤ dir → dir < 2 ^ 48 → (rest : List (List ℕ)) × (call_at words ≡ call_after verb dir name rest) × AreSpelled rest more
 unfolding call_at
@@ -116,15 +127,20 @@ call_again words (calls.Remove dir name) s within =
     let p = placed_again asked.Remove words dir name [] s within.0 within.1 in record { rest = p.0; is = p.1; later = p.2 }
 call_again words (calls.Lookup dir name) s within =
     let p = placed_again asked.Lookup words dir name [] s within.0 within.1 in record { rest = p.0; is = p.1; later = p.2 }
-call_again words (calls.Setattr dir name mode size) s within =
-    let p = placed_again asked.Setattr words dir name (Number mode ∷ Number size ∷ []) s within.0.0 within.0.1 in
-    let m = within_again 0 4095 p.0 mode (Number size ∷ []) p.2 (omega arith) within.1 in
-    let n = number_again m.rest size [] m.later in
-    record { rest = n.rest; is = p.1 ∙ rw (m.is, n.is) refl; later = n.later }
+call_again words (calls.Setattr dir name mode size stamp) s within =
+    let p = placed_again asked.Setattr words dir name (Number mode ∷ Number size ∷ stamp_parts stamp) s within.0.0 within.0.1 in
+    let m = within_again 0 4095 p.0 mode (Number size ∷ stamp_parts stamp) p.2 (omega arith) within.1 in
+    let n = number_again m.rest size (stamp_parts stamp) m.later in
+    let t = stamp_again n.rest stamp n.later within.2 in
+    record { rest = t.rest; is = p.1 ∙ rw (m.is, n.is, t.is) refl; later = t.later }
 call_again words (calls.Scan dir) s within = absurd within
 call_again words (calls.Grab dir name count) s within = absurd within
 call_again words (calls.Load dir rows) s within = absurd within
 call_again words (calls.Link dir name id) s within = absurd within
+call_again words (calls.Seal dir part epoch) s within = absurd within
+call_again words (calls.Unseal dir part epoch) s within = absurd within
+call_again words (calls.Kill dir epoch) s within = absurd within
+call_again words (calls.Unlink dir name id) s within = absurd within
 
 client_again : (setup : Setup) (words : List (List ℕ)) (client : ℕ) (more : List Part) → AreSpelled words (Number client ∷ more) → IsClient setup client → Takes (number_within 1 setup.clients words) client more
 client_again setup words client more s within = within_again 1 setup.clients words client more s within.0 within.1
@@ -261,6 +277,22 @@ call_verb_found : (word : List ℕ) (verb : CallVerb) → call_verb_of word ≡ 
 unfolding call_verb_of
 call_verb_found word verb found = sym ((bytes_eq-Decides (call_verb_text verb) word).0 (found_passes (λ verb. pointwise nat_eq (call_verb_text verb) word) each_call_verb verb found))
 
+-- the stamp that was found, and what follows it
+record StampFound (words : List (List ℕ)) (stamp : Option Stamp) (rest : List (List ℕ)) : Type 0 where
+  within : IsStamp stamp
+  read : AreSpelled rest [] → AreSpelled words (stamp_parts stamp)
+
+stamp_read : (words : List (List ℕ)) (x : Option Stamp × List (List ℕ)) → stamp_at words ≡ Some x → StampFound words x.0 x.1
+unfolding stamp_at
+stamp_read [] x found = subst (λ (x : Option Stamp × List (List ℕ)). StampFound [] x.0 x.1) (same_Some (None, []) x found) (record { within = tt; read = λ end. end })
+stamp_read (word ∷ words) x found =
+    let o = step (number_within 0 (2 ^ 32 - 1) (word ∷ words)) (λ owner. number_at owner.1 >>= (λ mtime. Some (Some (record { owner = owner.0; mtime = mtime.0 }), mtime.1))) x found in
+    let m = step (number_at o.value.1) (λ mtime. Some (Some (record { owner = o.value.0; mtime = mtime.0 }), mtime.1)) x o.second in
+    let owner = within_read 0 (2 ^ 32 - 1) (word ∷ words) o.value o.first in
+    let mtime = number_read o.value.1 m.value m.first in
+    subst (λ (x : Option Stamp × List (List ℕ)). StampFound (word ∷ words) x.0 x.1) (same_Some (Some (record { owner = o.value.0; mtime = m.value.0 }), m.value.1) x m.second)
+    (record { within = omega (arith, owner.high); read = λ end. owner.read (Number m.value.0 ∷ []) (mtime [] end) })
+
 -- the call that was found, and what follows it
 record CallFound (words : List (List ℕ)) (call : Call) (rest : List (List ℕ)) : Type 0 where
   asked : IsAsked call
@@ -277,12 +309,17 @@ after_read asked.Remove dir name words words' x low high read found =
 after_read asked.Lookup dir name words words' x low high read found =
     subst (λ (x : Call × List (List ℕ)). CallFound words x.0 x.1) (same_Some (calls.Lookup dir name, words') x found) (record { asked = (low, high); read = read [] })
 after_read asked.Setattr dir name words words' x low high read found =
-    let m = step (number_within 0 4095 words') (λ mode. number_at mode.1 >>= (λ size. Some (calls.Setattr dir name mode.0 size.0, size.1))) x found in
-    let s = step (number_at m.value.1) (λ size. Some (calls.Setattr dir name m.value.0 size.0, size.1)) x m.second in
+    let m = step (number_within 0 4095 words') (λ mode. number_at mode.1 >>= (λ size. stamp_at size.1 >>= (λ stamp. Some (calls.Setattr dir name mode.0 size.0 stamp.0, stamp.1)))) x found in
+    let s = step (number_at m.value.1) (λ size. stamp_at size.1 >>= (λ stamp. Some (calls.Setattr dir name m.value.0 size.0 stamp.0, stamp.1))) x m.second in
+    let t = step (stamp_at s.value.1) (λ stamp. Some (calls.Setattr dir name m.value.0 s.value.0 stamp.0, stamp.1)) x s.second in
     let mode = within_read 0 4095 words' m.value m.first in
     let size = number_read m.value.1 s.value s.first in
-    subst (λ (x : Call × List (List ℕ)). CallFound words x.0 x.1) (same_Some (calls.Setattr dir name m.value.0 s.value.0, s.value.1) x s.second)
-    (record { asked = ((low, high), mode.high); read = λ end. read (Number m.value.0 ∷ Number s.value.0 ∷ []) (mode.read (Number s.value.0 ∷ []) (size [] end)) })
+    let stamp = stamp_read s.value.1 t.value t.first in
+    subst (λ (x : Call × List (List ℕ)). CallFound words x.0 x.1) (same_Some (calls.Setattr dir name m.value.0 s.value.0 t.value.0, t.value.1) x t.second)
+    (record {
+      asked = ((low, high), mode.high, stamp.within);
+      read = λ end. read (Number m.value.0 ∷ Number s.value.0 ∷ stamp_parts t.value.0) (mode.read (Number s.value.0 ∷ stamp_parts t.value.0) (size (stamp_parts t.value.0) (stamp.read end)));
+    })
 
 call_read : (words : List (List ℕ)) (x : Call × List (List ℕ)) → call_at words ≡ Some x → CallFound words x.0 x.1
 unfolding call_at

@@ -1,8 +1,9 @@
 -- The lines of a script: which bytes say which line. It knows no reader.
-use Rattle.std.specs.Prelude.{◌≡◌, ◌⊎◌, ℕ, ◌<◌, ◌≤◌, ◌^◌, List, [], ◌∷◌, codes, decimal, IsTrue, length, slice_index}
+use Rattle.std.specs.Prelude.{◌≡◌, ◌⊎◌, ℕ, ◌<◌, ◌≤◌, ◌^◌, List, [], ◌∷◌, Option, Some, None, codes, decimal, IsTrue, length, slice_index}
 use Rattle.std.specs.Str.Parse.{AllDigits, digits_value}
 use Rattle.mds_base.specs.declared.call.Call.{Call}
-use Rattle.mds_base.specs.declared.call.Call.TheVariants.{Create, Mkdir, Remove, Lookup, Setattr, Scan, Grab, Load, Link}
+use Rattle.mds_base.specs.declared.call.Call.TheVariants.{Create, Mkdir, Remove, Lookup, Setattr, Scan, Grab, Load, Link, Seal, Unseal, Kill, Unlink}
+use Rattle.mds_base.specs.declared.attr.Stamp.{Stamp}
 use Rattle.mds_base.specs.declared.setup.Setup.{Setup}
 use Rattle.mds_base.specs.Name.{is_name}
 use Rattle.script.specs.Names.{SpellsName}
@@ -29,17 +30,26 @@ AreSpelled [] (part ∷ parts) = ⊥
 AreSpelled (word ∷ words) [] = ⊥
 AreSpelled (word ∷ words) (part ∷ parts) = IsSpelled word part × AreSpelled words parts
 
+-- the parts of a stamp: an owner and a time of modification
+abbrev pub stamp_parts : Option Stamp → List Part
+stamp_parts None = []
+stamp_parts (Some stamp) = Number stamp.owner ∷ Number stamp.mtime ∷ []
+
 -- the parts of a call that a line may ask for
 abbrev pub call_parts : Call → List Part
 call_parts (Create dir name) = Keyword (codes "create") ∷ Number dir ∷ Named name ∷ []
 call_parts (Mkdir dir name) = Keyword (codes "mkdir") ∷ Number dir ∷ Named name ∷ []
 call_parts (Remove dir name) = Keyword (codes "remove") ∷ Number dir ∷ Named name ∷ []
 call_parts (Lookup dir name) = Keyword (codes "lookup") ∷ Number dir ∷ Named name ∷ []
-call_parts (Setattr dir name mode size) = Keyword (codes "setattr") ∷ Number dir ∷ Named name ∷ Number mode ∷ Number size ∷ []
+call_parts (Setattr dir name mode size stamp) = Keyword (codes "setattr") ∷ Number dir ∷ Named name ∷ Number mode ∷ Number size ∷ stamp_parts stamp
 call_parts (Scan dir) = []
 call_parts (Grab dir name count) = []
 call_parts (Load dir rows) = []
 call_parts (Link dir name id) = []
+call_parts (Seal dir part epoch) = []
+call_parts (Unseal dir part epoch) = []
+call_parts (Kill dir epoch) = []
+call_parts (Unlink dir name id) = []
 
 -- the parts of a line
 abbrev pub line_parts : Line → List Part
@@ -77,17 +87,26 @@ IsClient setup client = (1 ≤ client) × (client ≤ setup.clients)
 abbrev pub IsServer : Setup → ℕ → Type 0
 IsServer setup server = server < setup.servers
 
+-- an owner is a number of 32 bits
+abbrev pub IsStamp : Option Stamp → Type 0
+IsStamp None = Unit {0}
+IsStamp (Some stamp) = stamp.owner < 2 ^ 32
+
 -- a call that a line may ask for
 abbrev pub IsAsked : Call → Type 0
 IsAsked (Create dir name) = IsDirectory dir
 IsAsked (Mkdir dir name) = IsDirectory dir
 IsAsked (Remove dir name) = IsDirectory dir
 IsAsked (Lookup dir name) = IsDirectory dir
-IsAsked (Setattr dir name mode size) = IsDirectory dir × (mode ≤ 4095)
+IsAsked (Setattr dir name mode size stamp) = IsDirectory dir × (mode ≤ 4095) × IsStamp stamp
 IsAsked (Scan dir) = ⊥
 IsAsked (Grab dir name count) = ⊥
 IsAsked (Load dir rows) = ⊥
 IsAsked (Link dir name id) = ⊥
+IsAsked (Seal dir part epoch) = ⊥
+IsAsked (Unseal dir part epoch) = ⊥
+IsAsked (Kill dir epoch) = ⊥
+IsAsked (Unlink dir name id) = ⊥
 
 -- the numbers of the line are in their ranges
 abbrev pub IsWithin : Setup → Line → Type 0

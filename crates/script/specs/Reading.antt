@@ -5,6 +5,7 @@ use Rattle.std.specs.Cmp.Lexicographic.{pointwise}
 use Rattle.std.specs.Char.{digit_value}
 use Rattle.std.specs.Str.Parse.{digits_value}
 use Rattle.mds_base.specs.Name.{is_name}
+use Rattle.mds_base.specs.declared.attr.Stamp.{Stamp}
 use Rattle.mds_base.specs.declared.call.Call.{Call}
 use Rattle.mds_base.specs.declared.call.Call.TheVariants as calls
 use Rattle.mds_base.specs.declared.setup.Setup.{Setup}
@@ -114,6 +115,14 @@ name_at words = do
 
 -- ---- a call
 
+-- a stamp, where a word is left
+unfoldable pub stamp_at : List (List ℕ) → Option (Option Stamp × List (List ℕ))
+stamp_at [] = Some (None, [])
+stamp_at (word ∷ words) = do
+  owner ← number_within 0 (2 ^ 32 - 1) (word ∷ words)
+  mtime ← number_at owner.1
+  Some (Some (record { owner = owner.0; mtime = mtime.0 }), mtime.1)
+
 -- what follows the name in a call
 unfoldable pub call_after : CallVerb → ℕ → List ℕ → List (List ℕ) → Option (Call × List (List ℕ))
 call_after asked.Create dir name words = Some (calls.Create dir name, words)
@@ -123,7 +132,8 @@ call_after asked.Lookup dir name words = Some (calls.Lookup dir name, words)
 call_after asked.Setattr dir name words = do
   mode ← number_within 0 4095 words
   size ← number_at mode.1
-  Some (calls.Setattr dir name mode.0 size.0, size.1)
+  stamp ← stamp_at size.1
+  Some (calls.Setattr dir name mode.0 size.0 stamp.0, stamp.1)
 
 unfoldable pub call_at : List (List ℕ) → Option (Call × List (List ℕ))
 call_at words = do

@@ -7,7 +7,7 @@ ghost use Rattle.script.specs.Words.{words_of};
 ghost use Rattle.script.specs.Grammar.{IsSpelled, Number, IsNumeral, IsComment, IsLine, IsWithin};
 ghost use Rattle.script.specs.Text.{line_text, ArePrinted};
 ghost use Rattle.script.specs.Answers.{Gives, IsLineOrMemory};
-ghost use Rattle.script.specs.Reading.{word_at, number_at, number_within, server_at, name_at, call_after, call_at, asked_at, call_line, issue_line, retry_line, deliver_line, take_line, tick_line, fuse_line, stop_line, restart_line, line_after, is_end, line_of};
+ghost use Rattle.script.specs.Reading.{word_at, number_at, number_within, server_at, name_at, stamp_at, call_after, call_at, asked_at, call_line, issue_line, retry_line, deliver_line, take_line, tick_line, fuse_line, stop_line, restart_line, line_after, is_end, line_of};
 
 use crate::escape::name_of;
 use crate::fault::LineFault;
@@ -15,7 +15,7 @@ use crate::line::Line;
 use crate::number::number_of;
 use crate::verb::{CallVerb, Verb, call_verb_of, verb_of};
 use crate::words::first_word;
-use mds_base::{Call, Name, Setup};
+use mds_base::{Call, Name, Setup, Stamp};
 use std::alloc::Global;
 
 /// The most that a directory's number may be.
@@ -23,6 +23,9 @@ const LAST_DIRECTORY: u64 = (1 << 48) - 1;
 
 /// The most that a mode may be.
 const LAST_MODE: u64 = 4095;
+
+/// The most that an owner's number may be.
+const LAST_OWNER: u64 = (1 << 32) - 1;
 
 /// The most moments that pass at once.
 const MOST_MOMENTS: u64 = 1 << 32;
@@ -221,6 +224,7 @@ fn call_after(
         CallVerb::Setattr => {
             let (mode, rest) = number_within(bytes, 0, LAST_MODE)?;
             let (size, rest) = number(rest)?;
+            let (stamp, rest) = stamp(rest)?;
             let mode = mode as u32;
             Ok((
                 Call::Setattr {
@@ -228,11 +232,26 @@ fn call_after(
                     name,
                     mode,
                     size,
+                    stamp,
                 },
                 rest,
             ))
         }
     }
+}
+
+/// A stamp, where a word is left.
+#[tactic(auto, unfolding(crate::specs::Reading::stamp_at))]
+fn stamp(bytes: &[u8]) -> Result<(Option<Stamp>, &[u8]), LineFault>
+    ensures { Gives (λ x. (x.0, words_of x.1.now)) result (stamp_at (words_of bytes.now)) }
+{
+    if first_word(bytes).is_none() {
+        return Ok((None, bytes));
+    }
+    let (owner, rest) = number_within(bytes, 0, LAST_OWNER)?;
+    let (mtime, rest) = number(rest)?;
+    let owner = owner as u32;
+    Ok((Some(Stamp { owner, mtime }), rest))
 }
 
 #[tactic(auto, unfolding(crate::specs::Reading::name_at))]
