@@ -1,5 +1,6 @@
 pub mod Acted
 pub mod Clauses
+pub mod Counting
 pub mod Crash
 pub mod Failing
 pub mod Kept

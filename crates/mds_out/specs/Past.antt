@@ -1,4 +1,5 @@
--- What a disk in memory is: what a restart leaves, the failing calls, and all that was done to it, oldest first.
+-- What a disk in memory is: what a restart leaves, the failing calls, how many calls and how many writes and cuts it was
+-- asked, and all that was done to it, oldest first.
 use Rattle.std.specs.Prelude.{◌≡◌, ◌≤◌, ℕ, Bool, true, false, List, [], ◌∷◌, ◌++◌, length, take, fold, ◌==◌, if◌then◌else◌, Result, Ok, Err, OnOk, OnErr}
 use Rattle.mds_out.specs.declared.disk.DiskFault.{DiskFault}
 use Rattle.mds_out.specs.declared.disk.DiskFault.TheVariants.{Device, OutOfMemory}
@@ -37,15 +38,26 @@ pub record Past : Type 0 where
   pub outcome : Outcome
   pub fails : List ℕ
   pub made : ℕ
+  pub changes : ℕ
   pub acts : List Act
 
--- after one call more, which did nothing
+-- after one call more, which looked
 abbrev pub counted : Past → Past
 counted past = record past { made = next_number past.made }
 
+-- how many writes and cuts there are after a call that was asked for this act
+abbrev pub changes_after : ℕ → Act → ℕ
+changes_after changes (Changed file change) = next_number changes
+changes_after changes (Synced file) = changes
+changes_after changes Restarted = changes
+
+-- after one call more, which was asked for this act and did nothing
+abbrev pub asked_for : Past → Act → Past
+asked_for past act = record past { made = next_number past.made; changes = changes_after past.changes act }
+
 -- after one call more, which did this
 abbrev pub with_act : Past → Act → Past
-with_act past act = record past { made = next_number past.made; acts = past.acts ++ act ∷ [] }
+with_act past act = record (asked_for past act) { acts = past.acts ++ act ∷ [] }
 
 abbrev pub is_device : {T : Type 0} → Result T DiskFault → Bool
 is_device (Ok _) = false
@@ -55,7 +67,7 @@ is_device (Err OutOfMemory) = false
 -- the call did this act, or was refused and did nothing; it failed exactly where its number said so, or found no memory
 pub record IsDone {T : Type 0} (act : Act) (old new : Past) (result : Result T DiskFault) : Type 0 where
   pub done : OnOk result (new ≡ with_act old act)
-  pub refused : OnErr result (new ≡ counted old)
+  pub refused : OnErr result (new ≡ asked_for old act)
   pub fails : is_failing old.fails old.made ≡ is_device result
 
 -- the call looked and did nothing; it failed exactly where its number said so, and took no memory

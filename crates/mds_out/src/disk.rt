@@ -2,6 +2,7 @@
 ghost use Rattle.std.specs.Prelude.{◌≡◌, ◌+◌, ◌-◌, ◌*◌, ◌^◌, ◌<◌, ◌≤◌, List, ℕ, Option, Some, max, length, take, drop, IfOk, OnOk, OnErr, IsErrOf, ⊤};
 ghost use Rattle.mds_out.specs.declared.disk.DiskFault.TheVariants.{OutOfMemory};
 ghost use Rattle.mds_out.specs.Fault.{Rose};
+ghost use Rattle.mds_out.specs.Calls.{next_number};
 ghost use Rattle.mds_out.specs.Known.{OnKnown, OnTold};
 ghost use Rattle.mds_out.specs.Images.{IsTorn, IsShortened, StepsGiveImages, ImagesComeByStep};
 ghost use Rattle.mds_out.specs.Disk.{Image, Tells, Contents, Lengths, put, Shows, IsUnchanged, IsElsewhereUnchanged, AreSame, Follows, Elapses, HasDiskCause};
@@ -63,6 +64,12 @@ pub trait Disk {
     /// That among the calls that led from the one disk to the other one was answered `Device`.
     ghost fails: { Self → Self → Type 0 };
 
+    /// How many calls the disk was asked, those that it refused among them. It stays at the greatest u64.
+    ghost asked: { Self → ℕ };
+
+    /// How many of these were writes or cuts.
+    ghost changes_asked: { Self → ℕ };
+
     /// The length of a file. Never `OutOfMemory`.
     fn length(&mut self, file: u32) -> Result<u64, DiskFault>
         ensures short { IfOk result (λ size. size < 2 ^ 63) }
@@ -73,7 +80,9 @@ pub trait Disk {
         ensures no_memory { IsErrOf result DiskFault.OutOfMemory → ⊥ }
         ensures cause { HasDiskCause (faults self.old) (faults self.new) result }
         ensures lasts { lasts self.old self.new }
-        ensures failed { IsErrOf result DiskFault.Device → fails self.old self.new };
+        ensures failed { IsErrOf result DiskFault.Device → fails self.old self.new }
+        ensures asked { asked self.new ≡ next_number (asked self.old) }
+        ensures changes { changes_asked self.new ≡ changes_asked self.old };
 
     /// Fills `into` with the bytes of a file from `at` on. Never `OutOfMemory`. After a refusal `into` holds any bytes.
     fn read(&mut self, file: u32, at: u64, into: &mut [u8]) -> Result<(), DiskFault>
@@ -86,7 +95,9 @@ pub trait Disk {
         ensures no_memory { IsErrOf result DiskFault.OutOfMemory → ⊥ }
         ensures cause { HasDiskCause (faults self.old) (faults self.new) result }
         ensures lasts { lasts self.old self.new }
-        ensures failed { IsErrOf result DiskFault.Device → fails self.old self.new };
+        ensures failed { IsErrOf result DiskFault.Device → fails self.old self.new }
+        ensures asked { asked self.new ≡ next_number (asked self.old) }
+        ensures changes { changes_asked self.new ≡ changes_asked self.old };
 
     /// Writes over what is there, and past the end. A refused write touches its own range at most.
     fn write_at(&mut self, file: u32, at: u64, bytes: &[u8]) -> Result<(), DiskFault>
@@ -100,7 +111,9 @@ pub trait Disk {
         ensures time { Elapses (moment self.old) (moment self.new) (images_since self.old) (images_since self.new) (images self.new) }
         ensures cause { HasDiskCause (faults self.old) (faults self.new) result }
         ensures lasts { lasts self.old self.new }
-        ensures failed { IsErrOf result DiskFault.Device → fails self.old self.new };
+        ensures failed { IsErrOf result DiskFault.Device → fails self.old self.new }
+        ensures asked { asked self.new ≡ next_number (asked self.old) }
+        ensures changes { changes_asked self.new ≡ next_number (changes_asked self.old) };
 
     /// Cuts a file to a length. A refused cut touches the bytes from there on at most.
     fn cut(&mut self, file: u32, to: u64) -> Result<(), DiskFault>
@@ -113,7 +126,9 @@ pub trait Disk {
         ensures time { Elapses (moment self.old) (moment self.new) (images_since self.old) (images_since self.new) (images self.new) }
         ensures cause { HasDiskCause (faults self.old) (faults self.new) result }
         ensures lasts { lasts self.old self.new }
-        ensures failed { IsErrOf result DiskFault.Device → fails self.old self.new };
+        ensures failed { IsErrOf result DiskFault.Device → fails self.old self.new }
+        ensures asked { asked self.new ≡ next_number (asked self.old) }
+        ensures changes { changes_asked self.new ≡ next_number (changes_asked self.old) };
 
     /// After it a crash leaves of the file what a read gives. A refused sync changes no image.
     fn sync(&mut self, file: u32) -> Result<(), DiskFault>
@@ -124,7 +139,9 @@ pub trait Disk {
         ensures time { Elapses (moment self.old) (moment self.new) (images_since self.old) (images_since self.new) (images self.new) }
         ensures cause { HasDiskCause (faults self.old) (faults self.new) result }
         ensures lasts { lasts self.old self.new }
-        ensures failed { IsErrOf result DiskFault.Device → fails self.old self.new };
+        ensures failed { IsErrOf result DiskFault.Device → fails self.old self.new }
+        ensures asked { asked self.new ≡ next_number (asked self.old) }
+        ensures changes { changes_asked self.new ≡ changes_asked self.old };
 
     /// Brings the disk up after a crash: what it tells then reads as one of the images that a crash could have left,
     /// and each image directly after it is one of those. It tells the files that it told before. A refused restart
@@ -138,7 +155,9 @@ pub trait Disk {
         ensures time { Elapses (moment self.old) (moment self.new) (images_since self.old) (images_since self.new) (images self.new) }
         ensures cause { HasDiskCause (faults self.old) (faults self.new) result }
         ensures lasts { lasts self.old self.new }
-        ensures failed { IsErrOf result DiskFault.Device → fails self.old self.new };
+        ensures failed { IsErrOf result DiskFault.Device → fails self.old self.new }
+        ensures asked { asked self.new ≡ next_number (asked self.old) }
+        ensures changes { changes_asked self.new ≡ changes_asked self.old };
 
     /// A disk tells the length of each file whose bytes it tells.
     ghost tells_length: { (disk : Self) (file : ℕ) (bytes : List ℕ) → seen disk file ≡ Some bytes → sizes disk file ≡ Some (length bytes) };

@@ -1,9 +1,10 @@
 //! A fuse round a disk, which refuses calls from a chosen one on.
 ghost use Rattle.std.specs.Prelude.{◌≡◌, ◌+◌, ◌-◌, ◌*◌, ◌^◌, ◌<◌, ◌≤◌, None, Some, true, false, min, max, length, take, drop, IfOk, OnOk, OnErr, IsErrOf, MatchBool, ⊤, ℕ};
+ghost use Rattle.mds_out.specs.Calls.{next_number};
 ghost use Rattle.mds_out.specs.Known.{OnKnown, OnTold};
 ghost use Rattle.mds_out.specs.Images.{IsTorn, IsShortened};
 ghost use Rattle.mds_out.specs.Disk.{Image, Tells, put, Shows, IsUnchanged, IsElsewhereUnchanged, AreSame, Follows, Elapses, HasDiskCause};
-ghost use Rattle.mds_out.specs.Fused.{fused_faults, is_blown, one_less, IsFused, OutlastsBy, FailsBy};
+ghost use Rattle.mds_out.specs.Fused.{fused_faults, fused_asked, fused_changes, look_refused, change_refused, is_blown, one_less, IsFused, OutlastsBy, FailsBy};
 ghost use Rattle.mds_out.specs.FusedLaws.{fused_here, fused_on, fused_fails_on, fused_fails_after};
 
 use crate::{Disk, DiskFault};
@@ -16,6 +17,7 @@ pub struct Fuse<D> {
     inner: D,
     left: Option<u64>,
     refused: u64,
+    refused_changes: u64,
 }
 
 impl<D> Model for Fuse<D> {
@@ -23,18 +25,19 @@ impl<D> Model for Fuse<D> {
 
     ghost Value = { Fused D };
 
-    ghost view = { λ f. record { inner = f.inner; left = f.left; refused = f.refused } };
+    ghost view = { λ f. record { inner = f.inner; left = f.left; refused = f.refused; refused_changes = f.refused_changes } };
 }
 
 impl<D> Fuse<D> {
     /// A fuse that is not armed.
     pub fn new(inner: D) -> Fuse<D>
-        ensures { result ≡ record { inner = inner; left = None; refused = 0 } }
+        ensures { result ≡ record { inner = inner; left = None; refused = 0; refused_changes = 0 } }
     {
         Fuse {
             inner,
             left: None,
             refused: 0,
+            refused_changes: 0,
         }
     }
 
@@ -60,9 +63,21 @@ impl<D> Fuse<D> {
         inner
     }
 
+    // Counts a write or a cut, and says whether it is refused.
+    fn refuses_change(&mut self) -> bool
+        ensures { MatchBool result ((is_blown self.old.left ≡ true) × (self.old.refused < 2 ^ 64) × (self.new ≡ change_refused self.old))
+            ((is_blown self.old.left ≡ false) × (self.new ≡ record self.old { left = one_less self.old.left })) }
+    {
+        if self.refuses() {
+            self.refused_changes = self.refused_changes.saturating_add(1);
+            return true;
+        }
+        false
+    }
+
     // Counts a call, and says whether it is refused.
     fn refuses(&mut self) -> bool
-        ensures { MatchBool result ((is_blown self.old.left ≡ true) × (self.old.refused < 2 ^ 64) × (self.new ≡ record self.old { refused = min (self.old.refused + 1) (2 ^ 64 - 1) }))
+        ensures { MatchBool result ((is_blown self.old.left ≡ true) × (self.old.refused < 2 ^ 64) × (self.new ≡ look_refused self.old))
             ((is_blown self.old.left ≡ false) × (self.new ≡ record self.old { left = one_less self.old.left })) }
     {
         match self.left {
@@ -96,6 +111,10 @@ impl<D: Disk> Disk for Fuse<D> {
 
     ghost fails = { FailsBy D.fails D.faults };
 
+    ghost asked = { fused_asked D.asked };
+
+    ghost changes_asked = { fused_changes D.changes_asked };
+
     ghost tells_length = { λ f. D.tells_length f.inner };
 
     ghost reads_as = { λ f. D.reads_as f.inner };
@@ -124,7 +143,9 @@ impl<D: Disk> Disk for Fuse<D> {
         ensures cause { HasDiskCause (fused_faults D.faults self.old) (fused_faults D.faults self.new) result }
         ensures lasts { OutlastsBy D.lasts D.faults self.old self.new }
         ensures failed { IsErrOf result DiskFault.Device → FailsBy D.fails D.faults self.old self.new }
-        ensures fused { IsFused self.old self.new result }
+        ensures asked { fused_asked D.asked self.new ≡ next_number (fused_asked D.asked self.old) }
+        ensures changes { fused_changes D.changes_asked self.new ≡ fused_changes D.changes_asked self.old }
+        ensures fused { IsFused look_refused self.old self.new result }
     {
         if self.refuses() {
             return Err(DiskFault::Device);
@@ -143,7 +164,9 @@ impl<D: Disk> Disk for Fuse<D> {
         ensures cause { HasDiskCause (fused_faults D.faults self.old) (fused_faults D.faults self.new) result }
         ensures lasts { OutlastsBy D.lasts D.faults self.old self.new }
         ensures failed { IsErrOf result DiskFault.Device → FailsBy D.fails D.faults self.old self.new }
-        ensures fused { IsFused self.old self.new result }
+        ensures asked { fused_asked D.asked self.new ≡ next_number (fused_asked D.asked self.old) }
+        ensures changes { fused_changes D.changes_asked self.new ≡ fused_changes D.changes_asked self.old }
+        ensures fused { IsFused look_refused self.old self.new result }
     {
         if self.refuses() {
             return Err(DiskFault::Device);
@@ -163,9 +186,11 @@ impl<D: Disk> Disk for Fuse<D> {
         ensures cause { HasDiskCause (fused_faults D.faults self.old) (fused_faults D.faults self.new) result }
         ensures lasts { OutlastsBy D.lasts D.faults self.old self.new }
         ensures failed { IsErrOf result DiskFault.Device → FailsBy D.fails D.faults self.old self.new }
-        ensures fused { IsFused self.old self.new result }
+        ensures asked { fused_asked D.asked self.new ≡ next_number (fused_asked D.asked self.old) }
+        ensures changes { fused_changes D.changes_asked self.new ≡ next_number (fused_changes D.changes_asked self.old) }
+        ensures fused { IsFused change_refused self.old self.new result }
     {
-        if self.refuses() {
+        if self.refuses_change() {
             return Err(DiskFault::Device);
         }
         self.inner.write_at(file, at, bytes)
@@ -182,9 +207,11 @@ impl<D: Disk> Disk for Fuse<D> {
         ensures cause { HasDiskCause (fused_faults D.faults self.old) (fused_faults D.faults self.new) result }
         ensures lasts { OutlastsBy D.lasts D.faults self.old self.new }
         ensures failed { IsErrOf result DiskFault.Device → FailsBy D.fails D.faults self.old self.new }
-        ensures fused { IsFused self.old self.new result }
+        ensures asked { fused_asked D.asked self.new ≡ next_number (fused_asked D.asked self.old) }
+        ensures changes { fused_changes D.changes_asked self.new ≡ next_number (fused_changes D.changes_asked self.old) }
+        ensures fused { IsFused change_refused self.old self.new result }
     {
-        if self.refuses() {
+        if self.refuses_change() {
             return Err(DiskFault::Device);
         }
         self.inner.cut(file, to)
@@ -199,7 +226,9 @@ impl<D: Disk> Disk for Fuse<D> {
         ensures cause { HasDiskCause (fused_faults D.faults self.old) (fused_faults D.faults self.new) result }
         ensures lasts { OutlastsBy D.lasts D.faults self.old self.new }
         ensures failed { IsErrOf result DiskFault.Device → FailsBy D.fails D.faults self.old self.new }
-        ensures fused { IsFused self.old self.new result }
+        ensures asked { fused_asked D.asked self.new ≡ next_number (fused_asked D.asked self.old) }
+        ensures changes { fused_changes D.changes_asked self.new ≡ fused_changes D.changes_asked self.old }
+        ensures fused { IsFused look_refused self.old self.new result }
     {
         if self.refuses() {
             return Err(DiskFault::Device);
@@ -217,7 +246,9 @@ impl<D: Disk> Disk for Fuse<D> {
         ensures cause { HasDiskCause (fused_faults D.faults self.old) (fused_faults D.faults self.new) result }
         ensures lasts { OutlastsBy D.lasts D.faults self.old self.new }
         ensures failed { IsErrOf result DiskFault.Device → FailsBy D.fails D.faults self.old self.new }
-        ensures fused { IsFused self.old self.new result }
+        ensures asked { fused_asked D.asked self.new ≡ next_number (fused_asked D.asked self.old) }
+        ensures changes { fused_changes D.changes_asked self.new ≡ fused_changes D.changes_asked self.old }
+        ensures fused { IsFused look_refused self.old self.new result }
     {
         if self.refuses() {
             return Err(DiskFault::Device);

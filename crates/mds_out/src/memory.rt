@@ -1,6 +1,6 @@
 //! Numbered files in memory, which fail and are torn as their maker said.
 ghost use Rattle.std.specs.Prelude.{◌≡◌, ◌∷◌, ◌++◌, [], ◌+◌, ◌^◌, ◌<◌, ◌≤◌, Some, length, take, drop, OnOk, OnErr, IfOk};
-ghost use Rattle.mds_out.specs.Calls.{failed_calls};
+ghost use Rattle.mds_out.specs.Calls.{failed_calls, next_number};
 ghost use Rattle.mds_out.specs.Change.{Write, Cut};
 ghost use Rattle.mds_out.specs.Content.{bytes_of};
 ghost use Rattle.mds_out.specs.Disk.{HasDiskCause};
@@ -23,6 +23,7 @@ pub struct Memory {
     alloc: Global,
     outcome: Outcome,
     calls: Calls,
+    changes: u64,
     slots: Vec<Slot>,
     acts: Acts,
 }
@@ -33,7 +34,7 @@ impl Model for Memory {
 
     ghost Value = { Past };
 
-    ghost view = { λ m. record { outcome = m.outcome; fails = m.calls.fails.items; made = m.calls.made; acts = m.acts } };
+    ghost view = { λ m. record { outcome = m.outcome; fails = m.calls.fails.items; made = m.calls.made; changes = m.changes; acts = m.acts } };
 
     ghost invariant = { λ m. HoldPast m.outcome m.acts m.slots.items };
 }
@@ -42,12 +43,13 @@ impl Memory {
     /// A disk without files. The outcome says what a restart leaves. The calls whose numbers, from 0, stand in
     /// `fails` answer `Device`; the number 2^64 - 1 stands for none.
     pub fn new(alloc: Global, outcome: Outcome, fails: Vec<u64>) -> Result<Memory, AllocError>
-        ensures { IfOk result (λ disk. disk ≡ record { outcome = outcome; fails = fails.items; made = 0; acts = [] }) }
+        ensures { IfOk result (λ disk. disk ≡ record { outcome = outcome; fails = fails.items; made = 0; changes = 0; acts = [] }) }
     {
         Ok(Memory {
             alloc,
             outcome,
             calls: Calls { fails, made: 0 },
+            changes: 0,
             slots: Vec::new(alloc),
             acts: Acts::new(alloc),
         })
@@ -117,6 +119,7 @@ impl Memory {
         ensures done { IsDone (Changed file (Write at bytes.now)) self.old self.new result }
         ensures cause { HasDiskCause (failed_calls self.old.fails self.old.made) (failed_calls self.new.fails self.new.made) result }
     {
+        self.changes = self.changes.saturating_add(1);
         if self.calls.make().is_err() {
             return Err(DiskFault::Device);
         }
@@ -128,6 +131,7 @@ impl Memory {
         ensures done { IsDone (Changed file (Cut to)) self.old self.new result }
         ensures cause { HasDiskCause (failed_calls self.old.fails self.old.made) (failed_calls self.new.fails self.new.made) result }
     {
+        self.changes = self.changes.saturating_add(1);
         if self.calls.make().is_err() {
             return Err(DiskFault::Device);
         }
@@ -176,6 +180,10 @@ impl Disk for Memory {
     ghost lasts = { λ a b. failed_calls a.fails a.made ≤ failed_calls b.fails b.made };
 
     ghost fails = { λ a b. Rose (failed_calls a.fails a.made) (failed_calls b.fails b.made) };
+
+    ghost asked = { λ m. m.made };
+
+    ghost changes_asked = { λ m. m.changes };
 
     ghost tells_length = { λ m file bytes is. tells_length m.outcome m.acts file bytes is };
 
