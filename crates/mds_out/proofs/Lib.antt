@@ -1,4 +1,5 @@
 pub mod Acted
+pub mod Calling
 pub mod Clauses
 pub mod Counting
 pub mod Crash

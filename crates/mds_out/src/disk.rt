@@ -5,7 +5,7 @@ ghost use Rattle.mds_out.specs.Fault.{Rose};
 ghost use Rattle.mds_out.specs.Calls.{next_number};
 ghost use Rattle.mds_out.specs.Known.{OnKnown, OnTold};
 ghost use Rattle.mds_out.specs.Images.{IsTorn, IsShortened, StepsGiveImages, ImagesComeByStep};
-ghost use Rattle.mds_out.specs.Disk.{Image, Tells, Contents, Lengths, put, Shows, IsUnchanged, IsElsewhereUnchanged, AreSame, Follows, Elapses, HasDiskCause};
+ghost use Rattle.mds_out.specs.Disk.{Image, Tells, Contents, Lengths, put, Shows, IsUnchanged, IsElsewhereUnchanged, AreSame, Follows, Elapses, IsReading, IsChanging};
 
 use std::alloc::{AllocError, AllocFailed};
 
@@ -74,30 +74,16 @@ pub trait Disk {
     fn length(&mut self, file: u32) -> Result<u64, DiskFault>
         ensures short { IfOk result (λ size. size < 2 ^ 63) }
         ensures told { IfOk result (λ size. (sizes self.new file ≡ Some size) × OnTold (sizes self.old file) (λ before. size ≡ before)) }
-        ensures unchanged { IsUnchanged (seen self.old) (seen self.new) (sizes self.old) (sizes self.new) }
-        ensures crash { AreSame (images self.old) (images self.new) }
-        ensures time { Elapses (moment self.old) (moment self.new) (images_since self.old) (images_since self.new) (images self.new) }
-        ensures no_memory { IsErrOf result DiskFault.OutOfMemory → ⊥ }
-        ensures cause { HasDiskCause (faults self.old) (faults self.new) result }
-        ensures lasts { lasts self.old self.new }
-        ensures failed { IsErrOf result DiskFault.Device → fails self.old self.new }
-        ensures asked { asked self.new ≡ next_number (asked self.old) }
-        ensures changes { changes_asked self.new ≡ changes_asked self.old };
+        ensures call { IsReading seen sizes images moment images_since faults changes_asked lasts fails self.old self.new result }
+        ensures asked { asked self.new ≡ next_number (asked self.old) };
 
     /// Fills `into` with the bytes of a file from `at` on. Never `OutOfMemory`. After a refusal `into` holds any bytes.
     fn read(&mut self, file: u32, at: u64, into: &mut [u8]) -> Result<(), DiskFault>
         requires short { at + length into.old < 2 ^ 63 }
         requires within { OnTold (sizes self.old file) (λ size. at + length into.old ≤ size) }
         ensures bytes { OnOk result (OnTold (seen self.old file) (λ bytes. into.new ≡ take (length into.old) (drop at bytes))) }
-        ensures unchanged { IsUnchanged (seen self.old) (seen self.new) (sizes self.old) (sizes self.new) }
-        ensures crash { AreSame (images self.old) (images self.new) }
-        ensures time { Elapses (moment self.old) (moment self.new) (images_since self.old) (images_since self.new) (images self.new) }
-        ensures no_memory { IsErrOf result DiskFault.OutOfMemory → ⊥ }
-        ensures cause { HasDiskCause (faults self.old) (faults self.new) result }
-        ensures lasts { lasts self.old self.new }
-        ensures failed { IsErrOf result DiskFault.Device → fails self.old self.new }
-        ensures asked { asked self.new ≡ next_number (asked self.old) }
-        ensures changes { changes_asked self.new ≡ changes_asked self.old };
+        ensures call { IsReading seen sizes images moment images_since faults changes_asked lasts fails self.old self.new result }
+        ensures asked { asked self.new ≡ next_number (asked self.old) };
 
     /// Writes over what is there, and past the end. A refused write touches its own range at most.
     fn write_at(&mut self, file: u32, at: u64, bytes: &[u8]) -> Result<(), DiskFault>
@@ -109,9 +95,7 @@ pub trait Disk {
         ensures elsewhere { IsElsewhereUnchanged file (seen self.old) (seen self.new) (sizes self.old) (sizes self.new) }
         ensures crash { Follows file (IsTorn at (length bytes.now)) (images self.old) (images self.new) }
         ensures time { Elapses (moment self.old) (moment self.new) (images_since self.old) (images_since self.new) (images self.new) }
-        ensures cause { HasDiskCause (faults self.old) (faults self.new) result }
-        ensures lasts { lasts self.old self.new }
-        ensures failed { IsErrOf result DiskFault.Device → fails self.old self.new }
+        ensures call { IsChanging faults lasts fails self.old self.new result }
         ensures asked { asked self.new ≡ next_number (asked self.old) }
         ensures changes { changes_asked self.new ≡ next_number (changes_asked self.old) };
 
@@ -124,9 +108,7 @@ pub trait Disk {
         ensures elsewhere { IsElsewhereUnchanged file (seen self.old) (seen self.new) (sizes self.old) (sizes self.new) }
         ensures crash { Follows file (IsShortened to) (images self.old) (images self.new) }
         ensures time { Elapses (moment self.old) (moment self.new) (images_since self.old) (images_since self.new) (images self.new) }
-        ensures cause { HasDiskCause (faults self.old) (faults self.new) result }
-        ensures lasts { lasts self.old self.new }
-        ensures failed { IsErrOf result DiskFault.Device → fails self.old self.new }
+        ensures call { IsChanging faults lasts fails self.old self.new result }
         ensures asked { asked self.new ≡ next_number (asked self.old) }
         ensures changes { changes_asked self.new ≡ next_number (changes_asked self.old) };
 
@@ -137,9 +119,7 @@ pub trait Disk {
         ensures crash { (image : Image) → images self.new image → images self.old image }
         ensures refused { OnErr result (AreSame (images self.old) (images self.new)) }
         ensures time { Elapses (moment self.old) (moment self.new) (images_since self.old) (images_since self.new) (images self.new) }
-        ensures cause { HasDiskCause (faults self.old) (faults self.new) result }
-        ensures lasts { lasts self.old self.new }
-        ensures failed { IsErrOf result DiskFault.Device → fails self.old self.new }
+        ensures call { IsChanging faults lasts fails self.old self.new result }
         ensures asked { asked self.new ≡ next_number (asked self.old) }
         ensures changes { changes_asked self.new ≡ changes_asked self.old };
 
@@ -153,9 +133,7 @@ pub trait Disk {
         ensures unchanged { OnErr result (IsUnchanged (seen self.old) (seen self.new) (sizes self.old) (sizes self.new)) }
         ensures refused { OnErr result (AreSame (images self.old) (images self.new)) }
         ensures time { Elapses (moment self.old) (moment self.new) (images_since self.old) (images_since self.new) (images self.new) }
-        ensures cause { HasDiskCause (faults self.old) (faults self.new) result }
-        ensures lasts { lasts self.old self.new }
-        ensures failed { IsErrOf result DiskFault.Device → fails self.old self.new }
+        ensures call { IsChanging faults lasts fails self.old self.new result }
         ensures asked { asked self.new ≡ next_number (asked self.old) }
         ensures changes { changes_asked self.new ≡ changes_asked self.old };
 

@@ -3,7 +3,7 @@ ghost use Rattle.std.specs.Prelude.{◌≡◌, ◌+◌, ◌-◌, ◌*◌, ◌^�
 ghost use Rattle.mds_out.specs.Calls.{next_number};
 ghost use Rattle.mds_out.specs.Known.{OnKnown, OnTold};
 ghost use Rattle.mds_out.specs.Images.{IsTorn, IsShortened};
-ghost use Rattle.mds_out.specs.Disk.{Image, Tells, put, Shows, IsUnchanged, IsElsewhereUnchanged, AreSame, Follows, Elapses, HasDiskCause};
+ghost use Rattle.mds_out.specs.Disk.{Image, Tells, put, Shows, IsUnchanged, IsElsewhereUnchanged, AreSame, Follows, Elapses, IsReading, IsChanging};
 ghost use Rattle.mds_out.specs.Fused.{fused_faults, fused_asked, fused_changes, look_refused, change_refused, is_blown, one_less, IsFused, OutlastsBy, FailsBy};
 ghost use Rattle.mds_out.specs.FusedLaws.{fused_here, fused_on, fused_fails_on, fused_fails_after};
 
@@ -136,15 +136,9 @@ impl<D: Disk> Disk for Fuse<D> {
     fn length(&mut self, file: u32) -> Result<u64, DiskFault>
         ensures short { IfOk result (λ size. size < 2 ^ 63) }
         ensures told { IfOk result (λ size. (D.sizes self.new.inner file ≡ Some size) × OnTold (D.sizes self.old.inner file) (λ before. size ≡ before)) }
-        ensures unchanged { IsUnchanged (D.seen self.old.inner) (D.seen self.new.inner) (D.sizes self.old.inner) (D.sizes self.new.inner) }
-        ensures crash { AreSame (D.images self.old.inner) (D.images self.new.inner) }
-        ensures time { Elapses (D.moment self.old.inner) (D.moment self.new.inner) (D.images_since self.old.inner) (D.images_since self.new.inner) (D.images self.new.inner) }
-        ensures no_memory { IsErrOf result DiskFault.OutOfMemory → ⊥ }
-        ensures cause { HasDiskCause (fused_faults D.faults self.old) (fused_faults D.faults self.new) result }
-        ensures lasts { OutlastsBy D.lasts D.faults self.old self.new }
-        ensures failed { IsErrOf result DiskFault.Device → FailsBy D.fails D.faults self.old self.new }
+        ensures call { IsReading (λ f. D.seen f.inner) (λ f. D.sizes f.inner) (λ f. D.images f.inner) (λ f. D.moment f.inner) (λ f. D.images_since f.inner)
+            (fused_faults D.faults) (fused_changes D.changes_asked) (OutlastsBy D.lasts D.faults) (FailsBy D.fails D.faults) self.old self.new result }
         ensures asked { fused_asked D.asked self.new ≡ next_number (fused_asked D.asked self.old) }
-        ensures changes { fused_changes D.changes_asked self.new ≡ fused_changes D.changes_asked self.old }
         ensures fused { IsFused look_refused self.old self.new result }
     {
         if self.refuses() {
@@ -157,15 +151,9 @@ impl<D: Disk> Disk for Fuse<D> {
         requires short { at + length into.old < 2 ^ 63 }
         requires within { OnTold (D.sizes self.old.inner file) (λ size. at + length into.old ≤ size) }
         ensures bytes { OnOk result (OnTold (D.seen self.old.inner file) (λ bytes. into.new ≡ take (length into.old) (drop at bytes))) }
-        ensures unchanged { IsUnchanged (D.seen self.old.inner) (D.seen self.new.inner) (D.sizes self.old.inner) (D.sizes self.new.inner) }
-        ensures crash { AreSame (D.images self.old.inner) (D.images self.new.inner) }
-        ensures time { Elapses (D.moment self.old.inner) (D.moment self.new.inner) (D.images_since self.old.inner) (D.images_since self.new.inner) (D.images self.new.inner) }
-        ensures no_memory { IsErrOf result DiskFault.OutOfMemory → ⊥ }
-        ensures cause { HasDiskCause (fused_faults D.faults self.old) (fused_faults D.faults self.new) result }
-        ensures lasts { OutlastsBy D.lasts D.faults self.old self.new }
-        ensures failed { IsErrOf result DiskFault.Device → FailsBy D.fails D.faults self.old self.new }
+        ensures call { IsReading (λ f. D.seen f.inner) (λ f. D.sizes f.inner) (λ f. D.images f.inner) (λ f. D.moment f.inner) (λ f. D.images_since f.inner)
+            (fused_faults D.faults) (fused_changes D.changes_asked) (OutlastsBy D.lasts D.faults) (FailsBy D.fails D.faults) self.old self.new result }
         ensures asked { fused_asked D.asked self.new ≡ next_number (fused_asked D.asked self.old) }
-        ensures changes { fused_changes D.changes_asked self.new ≡ fused_changes D.changes_asked self.old }
         ensures fused { IsFused look_refused self.old self.new result }
     {
         if self.refuses() {
@@ -183,9 +171,7 @@ impl<D: Disk> Disk for Fuse<D> {
         ensures elsewhere { IsElsewhereUnchanged file (D.seen self.old.inner) (D.seen self.new.inner) (D.sizes self.old.inner) (D.sizes self.new.inner) }
         ensures crash { Follows file (IsTorn at (length bytes.now)) (D.images self.old.inner) (D.images self.new.inner) }
         ensures time { Elapses (D.moment self.old.inner) (D.moment self.new.inner) (D.images_since self.old.inner) (D.images_since self.new.inner) (D.images self.new.inner) }
-        ensures cause { HasDiskCause (fused_faults D.faults self.old) (fused_faults D.faults self.new) result }
-        ensures lasts { OutlastsBy D.lasts D.faults self.old self.new }
-        ensures failed { IsErrOf result DiskFault.Device → FailsBy D.fails D.faults self.old self.new }
+        ensures call { IsChanging (fused_faults D.faults) (OutlastsBy D.lasts D.faults) (FailsBy D.fails D.faults) self.old self.new result }
         ensures asked { fused_asked D.asked self.new ≡ next_number (fused_asked D.asked self.old) }
         ensures changes { fused_changes D.changes_asked self.new ≡ next_number (fused_changes D.changes_asked self.old) }
         ensures fused { IsFused change_refused self.old self.new result }
@@ -204,9 +190,7 @@ impl<D: Disk> Disk for Fuse<D> {
         ensures elsewhere { IsElsewhereUnchanged file (D.seen self.old.inner) (D.seen self.new.inner) (D.sizes self.old.inner) (D.sizes self.new.inner) }
         ensures crash { Follows file (IsShortened to) (D.images self.old.inner) (D.images self.new.inner) }
         ensures time { Elapses (D.moment self.old.inner) (D.moment self.new.inner) (D.images_since self.old.inner) (D.images_since self.new.inner) (D.images self.new.inner) }
-        ensures cause { HasDiskCause (fused_faults D.faults self.old) (fused_faults D.faults self.new) result }
-        ensures lasts { OutlastsBy D.lasts D.faults self.old self.new }
-        ensures failed { IsErrOf result DiskFault.Device → FailsBy D.fails D.faults self.old self.new }
+        ensures call { IsChanging (fused_faults D.faults) (OutlastsBy D.lasts D.faults) (FailsBy D.fails D.faults) self.old self.new result }
         ensures asked { fused_asked D.asked self.new ≡ next_number (fused_asked D.asked self.old) }
         ensures changes { fused_changes D.changes_asked self.new ≡ next_number (fused_changes D.changes_asked self.old) }
         ensures fused { IsFused change_refused self.old self.new result }
@@ -223,9 +207,7 @@ impl<D: Disk> Disk for Fuse<D> {
         ensures crash { (image : Image) → D.images self.new.inner image → D.images self.old.inner image }
         ensures refused { OnErr result (AreSame (D.images self.old.inner) (D.images self.new.inner)) }
         ensures time { Elapses (D.moment self.old.inner) (D.moment self.new.inner) (D.images_since self.old.inner) (D.images_since self.new.inner) (D.images self.new.inner) }
-        ensures cause { HasDiskCause (fused_faults D.faults self.old) (fused_faults D.faults self.new) result }
-        ensures lasts { OutlastsBy D.lasts D.faults self.old self.new }
-        ensures failed { IsErrOf result DiskFault.Device → FailsBy D.fails D.faults self.old self.new }
+        ensures call { IsChanging (fused_faults D.faults) (OutlastsBy D.lasts D.faults) (FailsBy D.fails D.faults) self.old self.new result }
         ensures asked { fused_asked D.asked self.new ≡ next_number (fused_asked D.asked self.old) }
         ensures changes { fused_changes D.changes_asked self.new ≡ fused_changes D.changes_asked self.old }
         ensures fused { IsFused look_refused self.old self.new result }
@@ -243,9 +225,7 @@ impl<D: Disk> Disk for Fuse<D> {
         ensures unchanged { OnErr result (IsUnchanged (D.seen self.old.inner) (D.seen self.new.inner) (D.sizes self.old.inner) (D.sizes self.new.inner)) }
         ensures refused { OnErr result (AreSame (D.images self.old.inner) (D.images self.new.inner)) }
         ensures time { Elapses (D.moment self.old.inner) (D.moment self.new.inner) (D.images_since self.old.inner) (D.images_since self.new.inner) (D.images self.new.inner) }
-        ensures cause { HasDiskCause (fused_faults D.faults self.old) (fused_faults D.faults self.new) result }
-        ensures lasts { OutlastsBy D.lasts D.faults self.old self.new }
-        ensures failed { IsErrOf result DiskFault.Device → FailsBy D.fails D.faults self.old self.new }
+        ensures call { IsChanging (fused_faults D.faults) (OutlastsBy D.lasts D.faults) (FailsBy D.fails D.faults) self.old self.new result }
         ensures asked { fused_asked D.asked self.new ≡ next_number (fused_asked D.asked self.old) }
         ensures changes { fused_changes D.changes_asked self.new ≡ fused_changes D.changes_asked self.old }
         ensures fused { IsFused look_refused self.old self.new result }
