@@ -1,5 +1,5 @@
 -- An open log, and what the disk owes it.
-use Rattle.std.specs.Prelude.{◌≡◌, ◌≢◌, ◌≤◌, ℕ, Bool, false, List, length, Some, Result, OnOk, IsErrOf}
+use Rattle.std.specs.Prelude.{◌≡◌, ◌≢◌, ◌≤◌, ℕ, Bool, false, List, length, Some, Result, IfErr, OnOk, IsErrOf}
 use Rattle.gate_log.specs.declared.gate_log.LogFault.{LogFault}
 use Rattle.gate_log.specs.declared.gate_log.LogFault.TheVariants.{Device}
 use Rattle.gate_log.specs.Log.{HoldsLog, log_length}
@@ -50,10 +50,11 @@ pub record IsElsewhereOld (file : ℕ) (old : Image → Type 0) (image : Image) 
   pub was : old before
   pub others : (other : ℕ) → other ≢ file → image other ≡ before other
 
--- A log's calls: the disk's count never falls, rises where `Device` is answered, and stays where the call succeeds.
+-- A log's calls: the disk's count never falls, rises where `Device` is answered, and stays at each other answer.
 pub record HasLogCause {T : Type 0} (before now : ℕ) (result : Result T LogFault) : Type 0 where
   pub later : before ≤ now
   pub device : IsErrOf result Device → Rose before now
+  pub other : IfErr result (λ fault. fault ≢ Device → now ≡ before)
   pub kept : OnOk result (now ≡ before)
 
 -- a log that has not stopped

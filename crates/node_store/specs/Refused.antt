@@ -32,6 +32,7 @@ IsDevice (Disk fault doubt) = fault ≡ Device
 pub record HasRefusalCause {T : Type 0} (before now : ℕ) (result : Result T Refusal) : Type 0 where
   pub later : before ≤ now
   pub device : IfErr result (λ refusal. IsDevice refusal → Rose before now)
+  pub other : IfErr result (λ refusal. (IsDevice refusal → ⊥) → now ≡ before)
   pub kept : OnOk result (now ≡ before)
 
 -- a Serve is refused for want of memory, or because the disk failed

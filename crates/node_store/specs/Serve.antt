@@ -1,5 +1,5 @@
 -- What the calls of a server on a disk take and answer.
-use Rattle.std.specs.Prelude.{◌≡◌, ℕ, ◌<◌, ◌≤◌, ◌^◌, List, [], ◌∷◌, Option, Some, Result, OnOk, IsErrOf, ◌⊎◌}
+use Rattle.std.specs.Prelude.{◌≡◌, ◌≢◌, ℕ, ◌<◌, ◌≤◌, ◌^◌, List, [], ◌∷◌, Option, Some, Result, IfErr, OnOk, IsErrOf, ◌⊎◌}
 use Rattle.mds_base.specs.declared.ask.Ask.{Ask}
 use Rattle.mds_base.specs.declared.call.Call.{Call}
 use Rattle.mds_base.specs.declared.call.Call.TheVariants.{Lookup, Scan, Grab, Load, Link, Seal, Unseal, Kill, Unlink}
@@ -62,8 +62,9 @@ pub record HasStopped {D : Type 0} (seen : D → Contents) (images : D → Image
 abbrev pub IsAllOrNone : ℕ → ℕ → Type 0
 IsAllOrNone kept doubt = (kept ≡ 0) ⊎ (kept ≡ doubt)
 
--- a store's count of faults never falls, rises where Device is answered, and stays where the call succeeds
+-- a store's count of faults never falls, rises where Device is answered, and stays at each other answer
 pub record HasStoreCause {T : Type 0} (before now : ℕ) (result : Result T StoreFault) : Type 0 where
   pub later : before ≤ now
   pub device : IsErrOf result Device → Rose before now
+  pub other : IfErr result (λ fault. fault ≢ Device → now ≡ before)
   pub kept : OnOk result (now ≡ before)

@@ -1,4 +1,4 @@
-ghost use Rattle.std.specs.Prelude.{◌≡◌, ◌^◌, ◌<◌, ◌≤◌, ℕ, ◌⊎◌, [], None, Some, true, IfOk, IfErr, OnOk, OnErr, IsErrOf, MatchResult, IsTrue, ◌↔◌};
+ghost use Rattle.std.specs.Prelude.{◌≡◌, ◌≢◌, ◌^◌, ◌<◌, ◌≤◌, ℕ, ◌⊎◌, [], None, Some, true, IfOk, IfErr, OnOk, OnErr, IsErrOf, MatchResult, IsTrue, ◌↔◌};
 ghost use Rattle.mds_base.specs.declared.store_fault.StoreFault.TheVariants as StoreFault;
 ghost use Rattle.records.specs.declared.msg.Msg.{Msg};
 ghost use Rattle.records.specs.Spelling.{IsHead};
@@ -91,6 +91,7 @@ impl<D: Disk> NodeStore<D> {
         ensures told { MatchResult result (λ s. StaysTold (D.seen disk 1) (D.seen s.disk 1)) (λ r. StaysTold (D.seen disk 1) (D.seen r.disk 1)) }
         ensures same { IfOk result (λ s. D.faults s.disk ≡ D.faults disk) }
         ensures device { IfErr result (λ r. r.fault ≡ StoreFault.Device → Rose (D.faults disk) (D.faults r.disk)) }
+        ensures other { IfErr result (λ r. r.fault ≢ StoreFault.Device → D.faults r.disk ≡ D.faults disk) }
         ensures later { IfErr result (λ r. D.faults disk ≤ D.faults r.disk) }
         ensures lasts { IfOk result (λ s. D.lasts disk s.disk) }
         ensures lasts_refused { IfErr result (λ r. D.lasts disk r.disk) }
