@@ -11,7 +11,7 @@ use Rattle.sessions.specs.declared.kept.Kept.{Kept}
 use Rattle.sessions.specs.declared.kept.Judged.TheVariants.{New}
 use Rattle.sessions.specs.Kept.{judge_kept}
 use Rattle.node_core.specs.declared.part.Part.{Part}
-use Rattle.node_core.specs.declared.part.Edit.{Edit}
+use Rattle.mds_base.specs.declared.edit.Edit.{Edit}
 use Rattle.node_core.specs.Nodes.{NodeV, PartKey, part_cmp, new_part, session_in}
 use Rattle.node_core.specs.Edits.{part_noted, parts_noted}
 use Rattle.node_core.proofs.Views.{parts_total, exact_parts, insert_own}

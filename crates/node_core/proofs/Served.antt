@@ -16,11 +16,11 @@ use Rattle.sessions.specs.declared.kept.Judged.{Judged}
 use Rattle.sessions.specs.declared.kept.Judged.TheVariants.{New}
 use Rattle.sessions.specs.Kept.{judge_kept}
 use Rattle.sessions.specs.Kept as sessions
-use Rattle.node_core.specs.declared.part.Edit.{Edit}
+use Rattle.mds_base.specs.declared.edit.Edit.{Edit}
 use Rattle.node_core.specs.Nodes.{NodeV, StoreV, owns, session_in, row_in, row_key, rows_after, noted_in, edited_rows, part_in, edited_count}
 use Rattle.node_core.specs.Rules.{ChangeOf, LookOf, NotServed, asked_of, said_of, said_in, found, Silent, Looks, by_judged, outcome_of}
 use Rattle.node_core.specs.Serving.{ServedV, served_as, serve_ask, answer_to, carried, carried_at, part_at}
-use Rattle.node_core.specs.Edits.{edit_of, node_noted, numbers_of}
+use Rattle.node_core.specs.Edits.{node_noted, numbers_of}
 
 abbrev nothing : StoreV → ServedV
 nothing store = record { store = store; records = []; outputs = [] }
@@ -92,7 +92,7 @@ given_numbers (Kill d epoch) before fresh dir name e = cc
 given_numbers (Unlink d n id) before fresh dir name e = cc
 
 -- what the code noted is what the specification notes
-noted_parts : (node : NodeV) (dir client seq next next' : ℕ) (said said' : Final) (edit edit' : entries.Edit) (before before' : Option Attr) → next ≡ next' → said ≡ said' → edit ≡ edit' → before ≡ before'
+noted_parts : (node : NodeV) (dir client seq next next' : ℕ) (said said' : Final) (edit edit' : Edit) (before before' : Option Attr) → next ≡ next' → said ≡ said' → edit ≡ edit' → before ≡ before'
     → ◌≡◌ {A = NodeV}
     (record { server = node.server; setup = node.setup; next = next; parts = map.insert node.parts (dir, 0) (record { count = edited_count (part_in node dir 0).count edit before; sessions = sessions.noted (part_in node dir 0).sessions client seq said }) })
     (record { server = node.server; setup = node.setup; next = next'; parts = map.insert node.parts (dir, 0) (record { count = edited_count (part_in node dir 0).count edit' before'; sessions = sessions.noted (part_in node dir 0).sessions client seq said' }) })
@@ -100,7 +100,7 @@ noted_parts node dir client seq next next' said said' edit edit' before before' 
     λ i. record { server = node.server; setup = node.setup; next = n i; parts = map.insert node.parts (dir, 0) (record { count = edited_count (part_in node dir 0).count (e i) (b i); sessions = sessions.noted (part_in node dir 0).sessions client seq (f i) }) }
 
 pub noted_so : (node : NodeV) (rows : RowMap) (dir : ℕ) (name : List ℕ) (client seq : ℕ) (call : Call) (said : Final) (edit : Edit) (before : Option Attr)
-    → before ≡ row_in rows dir 0 name → asked_of call ≡ ChangeOf dir name → said ≡ said_of call before node.next → edit_of edit ≡ plain.edit_of call (Said said) before
+    → before ≡ row_in rows dir 0 name → asked_of call ≡ ChangeOf dir name → said ≡ said_of call before node.next → edit ≡ plain.edit_of call (Said said) before
     → node_noted node dir client seq said edit before ≡ noted_in node rows dir 0 name client seq call (said_in (record { node = node; rows = rows }) call dir name)
 unfolding noted_in
 noted_so node rows dir name client seq call said edit before at asked said' edit' =
@@ -108,11 +108,11 @@ noted_so node rows dir name client seq call said edit before at asked said' edit
     let numbers : numbers_of said ≡ length (plain.given_by call (Said said)) = ap numbers_of said' ∙ given_numbers call before node.next dir name asked ∙ ap (λ f. length (plain.given_by call (Said f))) (sym said') in
     let next : node.next + numbers_of said ≡ node.next + length (plain.given_by call (Said (said_in (record { node = node; rows = rows }) call dir name))) =
     ap (λ n. node.next + n) (numbers ∙ ap (λ f. length (plain.given_by call (Said f))) own) in
-    let e : edit_of edit ≡ plain.edit_of call (Said (said_in (record { node = node; rows = rows }) call dir name)) (row_in rows dir 0 name) =
+    let e : edit ≡ plain.edit_of call (Said (said_in (record { node = node; rows = rows }) call dir name)) (row_in rows dir 0 name) =
     edit' ∙ ap (λ o. plain.edit_of call (Said said) o) at ∙ ap (λ f. plain.edit_of call (Said f) (row_in rows dir 0 name)) own in
     noted_parts node dir client seq _ _ said (said_in (record { node = node; rows = rows }) call dir name) _ _ before (row_in rows dir 0 name) next own e at
 
-pub rows_so : (rows new : RowMap) (dir : ℕ) (name : List ℕ) (call : Call) (said : Final) (edit : Edit) (before : Option Attr) → before ≡ row_in rows dir 0 name → edit_of edit ≡ plain.edit_of call (Said said) before
-    → new ≡ edited_rows rows (row_key dir 0 name) (edit_of edit) → new ≡ rows_after rows dir 0 name call said
+pub rows_so : (rows new : RowMap) (dir : ℕ) (name : List ℕ) (call : Call) (said : Final) (edit : Edit) (before : Option Attr) → before ≡ row_in rows dir 0 name → edit ≡ plain.edit_of call (Said said) before
+    → new ≡ edited_rows rows (row_key dir 0 name) edit → new ≡ rows_after rows dir 0 name call said
 unfolding rows_after
 rows_so rows new dir name call said edit before at edit' is = is ∙ ap (edited_rows rows (row_key dir 0 name)) (edit' ∙ ap (plain.edit_of call (Said said)) at)

@@ -17,7 +17,7 @@ use Rattle.records.specs.declared.msg.Msg.TheVariants.{Request, Redirect, Answer
 use Rattle.sessions.specs.declared.kept.Kept.{Kept}
 use Rattle.sessions.specs.Kept.{SessionMap, restored, put_back}
 use Rattle.node_core.specs.declared.part.Part.{Part}
-use Rattle.node_core.specs.declared.part.Edit.{Edit}
+use Rattle.mds_base.specs.declared.edit.Edit.{Edit}
 use Rattle.node_core.specs.declared.undo.Undo.{Undo}
 use Rattle.node_core.specs.Nodes.{NodeV, StoreV, PartKey, part_cmp, new_part, session_in, noted_in}
 use Rattle.node_core.specs.Rules.{Asked, ChangeOf, LookOf, NotServed, asked_of, said_in, Outcome, Silent, Looks, Repeats, Carries, outcome}

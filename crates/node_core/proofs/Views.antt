@@ -13,11 +13,13 @@ use Rattle.mds_base.specs.declared.call.Call.{Call}
 use Rattle.mds_base.specs.declared.reply.Final.{Final}
 use Rattle.mds_base.specs.declared.reply.Reply.TheVariants.{Said}
 use Rattle.mds_base.specs.declared.row_key.RowKey.{RowKey}
-use Rattle.mds_base.specs.Entries.{Place, Entries, Edit, Keep, Put, Drop, edited}
+use Rattle.mds_base.specs.declared.edit.Edit.{Edit}
+use Rattle.mds_base.specs.declared.edit.Edit.TheVariants.{Keep, Put, Take}
+use Rattle.mds_base.specs.Entries.{Place, Entries, edited, edited_entry}
 use Rattle.mds_base.specs.PlainRules.{given_by}
 use Rattle.mds_base.specs.RowKeys.{RowMap}
 use Rattle.mds_base.proofs.Maps.{insert_apart, remove_apart}
-use Rattle.mds_base.proofs.Places.{places_total}
+use Rattle.mds_base.proofs.Places.{edited_here, places_total}
 use Rattle.mds_base.proofs.RowMaps.{row_keys_total, exact_row_keys}
 use Rattle.node_core.specs.declared.part.Part.{Part}
 use Rattle.node_core.proofs.Keys.{same_or_apart}
@@ -42,26 +44,15 @@ insert_own total exact m k v is = map.same_map total exact _ _ (λ q. elim (same
   | inr e ↦ insert_apart total exact m k v q e
 ])
 
--- what an edit makes of an entry
-abbrev pub edited_entry : Edit → Option Attr → Option Attr
-edited_entry Keep before = before
-edited_entry (Put attr) before = Some attr
-edited_entry Drop before = None
-
-pub entry_here : (entries : Entries) (place : Place) (edit : Edit) → map.get (edited entries place edit) place ≡ edited_entry edit (map.get entries place)
-entry_here entries place Keep = refl
-entry_here entries place (Put attr) = insert_here places_total entries place attr
-entry_here entries place Drop = remove_here places_total entries place
-
 row_edit_here : (rows : RowMap) (key : RowKey) (edit : Edit) → map.get (edited_rows rows key edit) key ≡ edited_entry edit (map.get rows key)
 row_edit_here rows key Keep = refl
 row_edit_here rows key (Put attr) = insert_here row_keys_total rows key attr
-row_edit_here rows key Drop = remove_here row_keys_total rows key
+row_edit_here rows key Take = remove_here row_keys_total rows key
 
 row_edit_apart : (rows : RowMap) (key : RowKey) (edit : Edit) (other : RowKey) → (other ≡ key → ⊥) → map.get (edited_rows rows key edit) other ≡ map.get rows other
 row_edit_apart rows key Keep other differ = refl
 row_edit_apart rows key (Put attr) other differ = insert_apart row_keys_total exact_row_keys rows key attr other differ
-row_edit_apart rows key Drop other differ = remove_apart row_keys_total exact_row_keys rows key other differ
+row_edit_apart rows key Take other differ = remove_apart row_keys_total exact_row_keys rows key other differ
 
 pub row_here : (rows : RowMap) (dir part : ℕ) (name : List ℕ) (call : Call) (said : Final) → row_in (rows_after rows dir part name call said) dir part name ≡ edited_entry (edit_in rows dir part name call said) (row_in rows dir part name)
 unfolding row_in rows_after

@@ -1,25 +1,18 @@
--- What the code makes of one entry, as an edit of the plain rules, and the partitions once a change was noted.
+-- The partitions once a change was noted.
 use Rattle.std.specs.Prelude.{ℕ, ◌+◌, Option, unwrap_or}
 use Rattle.std.specs.FinMap as map
 use Rattle.mds_base.specs.declared.attr.Attr.{Attr}
 use Rattle.mds_base.specs.declared.reply.Final.{Final}
-use Rattle.mds_base.specs.Entries as entries
 use Rattle.sessions.specs.Kept as sessions
 use Rattle.node_core.specs.declared.part.Part.{Part}
-use Rattle.node_core.specs.declared.part.Edit.{Edit}
-use Rattle.node_core.specs.declared.part.Edit.TheVariants.{Keep, Put, Take}
+use Rattle.mds_base.specs.declared.edit.Edit.{Edit}
 use Rattle.mds_base.specs.declared.reply.Final.TheVariants.{CreatedDir}
 use Rattle.node_core.specs.Nodes.{NodeV, PartKey, part_cmp, new_part, edited_count}
-
-abbrev pub edit_of : Edit → entries.Edit
-edit_of Keep = entries.Keep
-edit_of (Put attr) = entries.Put attr
-edit_of Take = entries.Drop
 
 -- a partition once a change was noted in it
 abbrev pub part_noted : Part → ℕ → ℕ → Final → Edit → Option Attr → Part
 part_noted part client seq said edit before = record {
-  count = edited_count part.count (edit_of edit) before;
+  count = edited_count part.count edit before;
   sessions = sessions.noted part.sessions client seq said;
 }
 

@@ -13,7 +13,8 @@ use Rattle.mds_base.specs.declared.reply.Final.{Final}
 use Rattle.mds_base.specs.declared.reply.Reply.TheVariants.{Said}
 use Rattle.mds_base.specs.declared.setup.Setup.{Setup}
 use Rattle.mds_base.specs.declared.row_key.RowKey.{RowKey}
-use Rattle.mds_base.specs.Entries.{Edit, Keep, Put, Drop}
+use Rattle.mds_base.specs.declared.edit.Edit.{Edit}
+use Rattle.mds_base.specs.declared.edit.Edit.TheVariants.{Keep, Put, Take}
 use Rattle.mds_base.specs.PlainRules.{edit_of, given_by}
 use Rattle.mds_base.specs.RowKeys.{RowMap}
 use Rattle.chains.specs.Reversed.{reversed}
@@ -110,12 +111,12 @@ row_in rows dir part name = map.get rows (row_key dir part name)
 abbrev pub edited_rows : RowMap → RowKey → Edit → RowMap
 edited_rows rows key Keep = rows
 edited_rows rows key (Put attr) = map.insert rows key attr
-edited_rows rows key Drop = map.remove rows key
+edited_rows rows key Take = map.remove rows key
 
 -- how many rows there are once one entry was edited
 abbrev pub edited_count : ℕ → Edit → Option Attr → ℕ
 edited_count count (Put attr) None = count + 1
-edited_count count Drop (Some before) = count - 1
+edited_count count Take (Some before) = count - 1
 edited_count count edit before = count
 
 -- what becomes of the row of a name by a call that got this final reply

@@ -8,7 +8,7 @@ use Rattle.sessions.specs.Kept.{judge_kept}
 use Rattle.node_core.specs.declared.plan.Change.{Change}
 use Rattle.node_core.specs.declared.plan.Plan.{Plan}
 use Rattle.node_core.specs.Nodes.{NodeV, StoreV, session_in, edited_rows}
-use Rattle.node_core.specs.Edits.{edit_of, node_noted}
+use Rattle.node_core.specs.Edits.{node_noted}
 use Rattle.node_core.specs.Serving.{ServedV, serve}
 
 -- the node once a change was noted, and the rows once it was written; no change leaves both
@@ -18,7 +18,7 @@ noted_by node (Some change) = node_noted node change.dir change.client change.se
 
 abbrev pub written_by : RowMap → Option Change → RowMap
 written_by rows None = rows
-written_by rows (Some change) = edited_rows rows change.key (edit_of change.weighed.edit)
+written_by rows (Some change) = edited_rows rows change.key change.weighed.edit
 
 -- nothing at or past the change's number is kept of its client
 abbrev pub IsNewer : NodeV → Option Change → Type 0

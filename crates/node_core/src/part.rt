@@ -1,15 +1,13 @@
 ghost use Rattle.std.specs.Prelude.{◌≡◌, OnOk, OnErr, IfOk};
-ghost use Rattle.mds_base.specs.Entries as entries;
 ghost use Rattle.mds_base.specs.PlainRules as plain;
 ghost use Rattle.mds_base.specs.declared.reply.Reply.{Reply};
 ghost use Rattle.sessions.specs.declared.kept.Judged.{Judged};
 ghost use Rattle.sessions.specs.Kept.{judged};
 ghost use Rattle.node_core.specs.Nodes.{new_part, edited_count};
 ghost use Rattle.node_core.specs.Rules.{said_of};
-ghost use Rattle.node_core.specs.Edits.{edit_of, part_noted};
-ghost use Rattle.node_core.specs.declared.part.Edit.{Edit};
+ghost use Rattle.node_core.specs.Edits.{part_noted};
 
-use mds_base::{Attr, Call, Final};
+use mds_base::{Attr, Call, Edit, Final};
 use sessions::Sessions;
 use std::alloc::{AllocError, Global};
 
@@ -20,17 +18,6 @@ pub struct Part {
     pub count: u64,
     /// What it keeps of its clients' last changes.
     pub sessions: Sessions,
-}
-
-/// What becomes of the entry of a name.
-#[derive(Clone, Copy, Debug)]
-pub enum Edit {
-    /// It stays as it is.
-    Keep,
-    /// It gets these attributes.
-    Put(Attr),
-    /// It goes.
-    Take,
 }
 
 /// What the plain rules say to a change: its reply, and what becomes of the entry.
@@ -85,7 +72,7 @@ impl Part {
 
 // How many rows there are once an entry was edited.
 fn count_after(count: u64, edit: Edit, before: Option<Attr>) -> Result<u64, AllocError>
-    ensures { IfOk result (λ now. now ≡ edited_count count (edit_of edit) before) }
+    ensures { IfOk result (λ now. now ≡ edited_count count edit before) }
 {
     match edit {
         Edit::Keep => Ok(count),
@@ -111,65 +98,42 @@ fn count_after(count: u64, edit: Edit, before: Option<Attr>) -> Result<u64, Allo
 /// give.
 pub fn weigh(call: &Call, before: Option<Attr>, fresh: u64) -> Weighed
     ensures said { result.said ≡ said_of call.now before fresh }
-    ensures edit { edit_of result.edit ≡ plain.edit_of call.now (Reply.Said result.said) before }
+    ensures edit { result.edit ≡ plain.edit_of call.now (Reply.Said result.said) before }
 {
-    match call {
-        Call::Create { .. } => match before {
-            None => Weighed::put(Final::Created, Attr::new_file()),
-            Some(_) => Weighed::keep(Final::Exists),
-        },
-        Call::Mkdir { .. } => match before {
-            None => Weighed::put(Final::CreatedDir(fresh), Attr::new_directory(fresh)),
-            Some(_) => Weighed::keep(Final::Exists),
-        },
-        Call::Remove { .. } => match before {
-            None => Weighed::keep(Final::Missing),
-            Some(attr) => {
-                if attr.is_file() {
-                    Weighed::take(Final::Removed)
-                } else {
-                    Weighed::keep(Final::IsDir)
-                }
-            }
-        },
-        Call::Setattr {
-            mode, size, stamp, ..
-        } => match before {
-            None => Weighed::keep(Final::Missing),
-            Some(attr) => Weighed::put(Final::Set, attr.reset(*mode, *size, *stamp)),
-        },
-        _ => Weighed::keep(Final::Stale),
+    let said = said_to(call, before, fresh);
+    Weighed {
+        said,
+        edit: Edit::of(call, said, before),
     }
 }
 
-impl Weighed {
-    fn keep(said: Final) -> Weighed
-        ensures said { result.said ≡ said }
-        ensures edit { result.edit ≡ Edit.Keep }
-    {
-        Weighed {
-            said,
-            edit: Edit::Keep,
-        }
-    }
-
-    fn take(said: Final) -> Weighed
-        ensures said { result.said ≡ said }
-        ensures edit { result.edit ≡ Edit.Take }
-    {
-        Weighed {
-            said,
-            edit: Edit::Take,
-        }
-    }
-
-    fn put(said: Final, attr: Attr) -> Weighed
-        ensures said { result.said ≡ said }
-        ensures edit { result.edit ≡ Edit.Put attr }
-    {
-        Weighed {
-            said,
-            edit: Edit::Put(attr),
-        }
+// The reply of the plain rules.
+fn said_to(call: &Call, before: Option<Attr>, fresh: u64) -> Final
+    ensures { result ≡ said_of call.now before fresh }
+{
+    match call {
+        Call::Create { .. } => match before {
+            None => Final::Created,
+            Some(_) => Final::Exists,
+        },
+        Call::Mkdir { .. } => match before {
+            None => Final::CreatedDir(fresh),
+            Some(_) => Final::Exists,
+        },
+        Call::Remove { .. } => match before {
+            None => Final::Missing,
+            Some(attr) => {
+                if attr.is_file() {
+                    Final::Removed
+                } else {
+                    Final::IsDir
+                }
+            }
+        },
+        Call::Setattr { .. } => match before {
+            None => Final::Missing,
+            Some(_) => Final::Set,
+        },
+        _ => Final::Stale,
     }
 }

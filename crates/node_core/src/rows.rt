@@ -1,11 +1,9 @@
 ghost use Rattle.std.specs.Prelude.{◌≡◌, OnOk, OnErr, IfOk};
 ghost use Rattle.mds_base.specs.RowsCause.{HasRowsCause};
 ghost use Rattle.node_core.specs.Nodes.{row_key, edited_rows};
-ghost use Rattle.node_core.specs.Edits.{edit_of};
 
-use crate::part::Edit;
 use chains::reverse;
-use mds_base::{Name, RowKey, Rows, RowsFault};
+use mds_base::{Edit, Name, RowKey, Rows, RowsFault};
 use name_hash::hash;
 use std::alloc::{AllocError, Global};
 
@@ -23,7 +21,7 @@ pub fn key_of(alloc: Global, dir: u64, name: &Name) -> Result<RowKey, AllocError
 
 /// Makes an edit at a key. Where it is refused the rows stay as they are.
 pub fn write<R: Rows>(rows: &mut R, key: RowKey, edit: Edit) -> Result<(), RowsFault>
-    ensures ok { OnOk result (R.contents rows.new ≡ edited_rows (R.contents rows.old) key (edit_of edit)) }
+    ensures ok { OnOk result (R.contents rows.new ≡ edited_rows (R.contents rows.old) key edit) }
     ensures err { OnErr result (R.contents rows.new ≡ R.contents rows.old) }
     ensures cause { HasRowsCause (R.faults rows.old) (R.faults rows.new) result }
 {

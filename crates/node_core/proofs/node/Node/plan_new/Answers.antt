@@ -5,7 +5,6 @@ use Rattle.records.specs.declared.record.Record.TheVariants.{Served}
 use Rattle.node_core.specs.declared.plan.Plan.{Plan}
 use Rattle.node_core.specs.Nodes.{NodeV, StoreV, row_in, edited_rows, rows_after}
 use Rattle.node_core.specs.Rules.{said_of}
-use Rattle.node_core.specs.Edits.{edit_of}
 use Rattle.node_core.specs.Serving.{answer_to}
 use Rattle.node_core.specs.Planning.{IsPlanOf}
 use Rattle.node_core.proofs.Served.{change_new, noted_so, rows_so}
@@ -32,7 +31,7 @@ returns-clause-ok g c =
       records = c.in_ok-handled.ensures.records ∙ ap (λ f. Served ask.client ask.seq 0 ask.call f ∷ []) own_said;
       outputs = c.in_ok-handled.ensures.outputs ∙ ap (λ f. answer_to ask (Said f) ∷ []) own_said;
       node' = noted_so c.args.self.now rows dir name ask.client ask.seq ask.call weighed.said weighed.edit c.in_ok-before.before before_is c.requires.asked said_is c.weigh-weighed.ensures.edit;
-      rows' = rows_so rows _ dir name ask.call weighed.said weighed.edit c.in_ok-before.before before_is c.weigh-weighed.ensures.edit (ap (λ k. edited_rows rows k (edit_of weighed.edit)) c.in_ok-key.ensures)
+      rows' = rows_so rows _ dir name ask.call weighed.said weighed.edit c.in_ok-before.before before_is c.weigh-weighed.ensures.edit (ap (λ k. edited_rows rows k weighed.edit) c.in_ok-key.ensures)
           ∙ ap (λ f. rows_after rows dir 0 name ask.call f) own_said;
       newer = c.requires.newer;
     })

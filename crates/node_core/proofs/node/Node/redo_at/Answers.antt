@@ -2,7 +2,6 @@ use Rattle.std.proofs.Common.{◌≡◌, ◌∙◌, sym, ap, true}
 use Rattle.std.specs.FinMap as map
 use Rattle.node_core.specs.Nodes.{NodeV, StoreV, row_in, edited_rows, rows_after}
 use Rattle.node_core.specs.Rules.{said_of}
-use Rattle.node_core.specs.Edits.{edit_of}
 use Rattle.node_core.specs.Serving.{may_carry}
 use Rattle.node_core.proofs.Served.{noted_so, rows_so}
 use Rattle.node_core.proofs.Replayed.{stays, follows_means, follows_so}
@@ -40,6 +39,6 @@ returns-clause-ok g c =
       follows' = sym f.0;
       node' = c.in_ok-change.ensures.node ∙ noted_so c.args.self.now rows dir name c.args.client c.args.seq call c.weigh-weighed.result.said c.weigh-weighed.result.edit c.in_ok-before.before before_is c.requires.asked said_is c.weigh-weighed.ensures.edit ∙ ap (λ (v : StoreV). v.node) (sym f.1);
       rows' = rows_so rows (g.R.Rows.contents c.change.new.rows) dir name call c.weigh-weighed.result.said c.weigh-weighed.result.edit c.in_ok-before.before before_is c.weigh-weighed.ensures.edit
-          (c.in_ok-change.ensures.rows ∙ ap (λ m. edited_rows m c.in_ok-key.key (edit_of c.weigh-weighed.result.edit)) c.get.ensures.contents ∙ ap (λ k. edited_rows rows k (edit_of c.weigh-weighed.result.edit)) key_is)
+          (c.in_ok-change.ensures.rows ∙ ap (λ m. edited_rows m c.in_ok-key.key c.weigh-weighed.result.edit) c.get.ensures.contents ∙ ap (λ k. edited_rows rows k c.weigh-weighed.result.edit) key_is)
           ∙ ap (λ x. rows_after rows dir 0 name call x) own_said ∙ ap (λ (v : StoreV). v.rows) (sym f.1);
     }
