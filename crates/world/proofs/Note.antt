@@ -15,7 +15,9 @@ use Rattle.sessions.specs.Kept.{seq_of}
 use Rattle.node_core.specs.Nodes.{StoreV, PartKey, server_for, session_in, row_in, noted_in}
 use Rattle.node_core.specs.Rules.{ChangeOf, asked_of, said_in}
 use Rattle.node_core.specs.Serving.{carried}
-use Rattle.node_core.proofs.Views.{edited_entry, entry_here, row_here, row_apart, session_here, session_beside, session_apart, parts_total, exact_parts}
+use Rattle.mds_base.specs.Entries.{edited_entry}
+use Rattle.mds_base.proofs.Places.{edited_here}
+use Rattle.node_core.proofs.Views.{row_here, row_apart, session_here, session_beside, session_apart, parts_total, exact_parts}
 use Rattle.world.specs.declared.state.ServerState.{ServerState}
 use Rattle.mds_base.specs.Lists.{Among}
 use Rattle.world.specs.Worlds.{store_of}
@@ -101,7 +103,7 @@ module _ (t : Trace) (inv : Inv t) (s : ℕ) (state : ServerState) (is : slice_g
     there : map.get (after t.past.entries call (Said said)) (dir, name) ≡ row_in (new (server_for servers dir 0)).rows dir 0 name
     there =
         ap (λ m. map.get m (dir, name)) (after_change t.past.entries call said dir name may.asked)
-        ∙ entry_here t.past.entries (dir, name) (edit_of call (Said said) (map.get t.past.entries (dir, name)))
+        ∙ edited_here t.past.entries (dir, name) (edit_of call (Said said) (map.get t.past.entries (dir, name)))
         ∙ ap (λ o. edited_entry (edit_of call (Said said) o) o) before
         ∙ sym (row_here store.rows dir 0 name call said)
         ∙ sym (ap (λ (v : StoreV). row_in v.rows dir 0 name) here)
