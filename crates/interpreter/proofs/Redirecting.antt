@@ -61,7 +61,7 @@ redirected_open client pending (msgs.Held to seq attempt until) e = absurd (true
 redirected_open client pending (msgs.Page to seq attempt rows next) e = cc
 redirected_open client pending (msgs.Closed to seq attempt part epoch) e = cc
 redirected_open client pending (msgs.Request server ask cursor) e = cc
-redirected_open client pending (msgs.Transfer server dir part depth index count bits sessions top rows) e = cc
+redirected_open client pending (msgs.Transfer server dir part depth index pieces bits sessions top rows) e = cc
 redirected_open client pending (msgs.Installed server dir part child) e = cc
 
 redirected_at_open : (client : ClientV) (open_call : Option Pending) (msg : Msg) → is_redirected (Some (taking.take_at client open_call msg).taken) ≡ true → is_some (taking.take_at client open_call msg).client.pending ≡ true

@@ -173,7 +173,7 @@ served_records store ask now (Carries said) is asked numbers few from_two = carr
 pub serve_records : (store : StoreV) (msg : Msg) (now : ℕ) → IsMessage msg → has_numbers store.node ≡ true → store.node.server < 32 → 2 ≤ store.node.next → AreServed store (serve store msg now).records
 serve_records store (Request to ask cursor) now made numbers few from_two = served_records store ask now (outcome store ask now) refl made numbers few from_two
 serve_records store (Redirect client seq attempt dir bits) now made numbers few from_two = no_records store
-serve_records store (Transfer to dir part depth index count bits sessions top rows) now made numbers few from_two = no_records store
+serve_records store (Transfer to dir part depth index pieces bits sessions top rows) now made numbers few from_two = no_records store
 serve_records store (Answer client seq attempt reply) now made numbers few from_two = no_records store
 serve_records store (Busy client seq attempt part depth) now made numbers few from_two = no_records store
 serve_records store (Held client seq attempt until) now made numbers few from_two = no_records store

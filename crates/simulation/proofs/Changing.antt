@@ -93,7 +93,7 @@ module _ (servers : ℕ) (sent : List Msg) (good : Each sent (λ j msg. IsSent s
   serve_sent store (Held to seq attempt until) now = sent_none
   serve_sent store (Page to seq attempt rows next) now = sent_none
   serve_sent store (Closed to seq attempt part epoch) now = sent_none
-  serve_sent store (Transfer to dir part depth index count bits sessions top rows) now = sent_none
+  serve_sent store (Transfer to dir part depth index pieces bits sessions top rows) now = sent_none
   serve_sent store (Installed to dir part child) now = sent_none
 
   pub sent_served : (store : StoreV) (msg : Msg) (now : ℕ) (outputs sent' : List Msg) → outputs ≡ (serve store msg now).outputs → sent' ≡ sent ++ outputs → Each sent' (λ j msg. IsSent servers msg)
@@ -107,7 +107,7 @@ message_made servers (Busy to seq attempt part depth) good = tt
 message_made servers (Held to seq attempt until) good = tt
 message_made servers (Page to seq attempt rows next) good = tt
 message_made servers (Closed to seq attempt part epoch) good = tt
-message_made servers (Transfer to dir part depth index count bits sessions top rows) good = tt
+message_made servers (Transfer to dir part depth index pieces bits sessions top rows) good = tt
 message_made servers (Installed to dir part child) good = tt
 
 -- the server of a message, where it is for one, is there
@@ -119,7 +119,7 @@ for_there servers (Busy to seq attempt part depth) good = tt
 for_there servers (Held to seq attempt until) good = tt
 for_there servers (Page to seq attempt rows next) good = tt
 for_there servers (Closed to seq attempt part epoch) good = tt
-for_there servers (Transfer to dir part depth index count bits sessions top rows) good = good
+for_there servers (Transfer to dir part depth index pieces bits sessions top rows) good = good
 for_there servers (Installed to dir part child) good = good
 
 pub server_there : {X : Type 0} (setup : Setup) (now count : ℕ) (stores : List (Store X)) (clients : List ClientV) (sent : List Msg) → AreRanges setup now count stores clients sent → (msgs : List Msg) (at : ℕ) (msg : Msg) (result : Option ℕ) → msgs ≡ sent → at < length msgs → msg ≡ get_or msgs at msg → result ≡ server_for (Some msg)

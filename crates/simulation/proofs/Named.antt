@@ -31,7 +31,7 @@ not_named events place none = elim (is_named events place) as (λ b. is_named ev
 
 pub for_server : (s server : ℕ) (msg : Msg) → server_for (Some msg) ≡ Some server → is_for_server s (Some msg) ≡ (server == s)
 for_server s server (Request to ask cursor) e = let h : to ≡ server = cc in ap (λ n. n == s) h
-for_server s server (Transfer to dir part depth index count bits sessions top rows) e = let h : to ≡ server = cc in ap (λ n. n == s) h
+for_server s server (Transfer to dir part depth index pieces bits sessions top rows) e = let h : to ≡ server = cc in ap (λ n. n == s) h
 for_server s server (Installed to dir part child) e = let h : to ≡ server = cc in ap (λ n. n == s) h
 for_server s server (Redirect to seq attempt dir bits) e = cc
 for_server s server (Answer to seq attempt reply) e = cc

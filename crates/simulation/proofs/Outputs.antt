@@ -43,7 +43,7 @@ for_none s store (Busy to seq attempt part depth) now k = refl
 for_none s store (Held to seq attempt until) now k = refl
 for_none s store (Page to seq attempt rows next) now k = refl
 for_none s store (Closed to seq attempt part epoch) now k = refl
-for_none s store (Transfer to dir part depth index count bits sessions top rows) now k = refl
+for_none s store (Transfer to dir part depth index pieces bits sessions top rows) now k = refl
 for_none s store (Installed to dir part child) now k = refl
 
 -- a reply is for the client that asked
@@ -67,7 +67,7 @@ first_for client store (Busy to seq attempt part depth) now e = tt
 first_for client store (Held to seq attempt until) now e = tt
 first_for client store (Page to seq attempt rows next) now e = tt
 first_for client store (Closed to seq attempt part epoch) now e = tt
-first_for client store (Transfer to dir part depth index count bits sessions top rows) now e = tt
+first_for client store (Transfer to dir part depth index pieces bits sessions top rows) now e = tt
 first_for client store (Installed to dir part child) now e = tt
 
 -- the entries that the world notes are those that the program makes
@@ -132,7 +132,7 @@ serve_makes h store (Busy to seq attempt part depth) now place = sym (append-nil
 serve_makes h store (Held to seq attempt until) now place = sym (append-nil _)
 serve_makes h store (Page to seq attempt rows next) now place = sym (append-nil _)
 serve_makes h store (Closed to seq attempt part epoch) now place = sym (append-nil _)
-serve_makes h store (Transfer to dir part depth index count bits sessions top rows) now place = sym (append-nil _)
+serve_makes h store (Transfer to dir part depth index pieces bits sessions top rows) now place = sym (append-nil _)
 serve_makes h store (Installed to dir part child) now place = sym (append-nil _)
 
 as_answered : (h : History) (ask : Ask) (place : ℕ) (o : Outcome) → (past.served_as h ask place o).answered ≡ h.answered
@@ -149,5 +149,5 @@ serve_answered h store (Busy to seq attempt part depth) now place = refl
 serve_answered h store (Held to seq attempt until) now place = refl
 serve_answered h store (Page to seq attempt rows next) now place = refl
 serve_answered h store (Closed to seq attempt part epoch) now place = refl
-serve_answered h store (Transfer to dir part depth index count bits sessions top rows) now place = refl
+serve_answered h store (Transfer to dir part depth index pieces bits sessions top rows) now place = refl
 serve_answered h store (Installed to dir part child) now place = refl

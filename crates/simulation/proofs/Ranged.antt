@@ -74,7 +74,7 @@ module _ (setup : Setup) (count k : ℕ) (client : ClientV) (s : IsSeat setup co
   pending_seat pending (Page to seq attempt rows next) busy = seat_more setup count k client s
   pending_seat pending (Closed to seq attempt part epoch) busy = seat_more setup count k client s
   pending_seat pending (Request to ask cursor) busy = seat_more setup count k client s
-  pending_seat pending (Transfer to dir part depth index count bits sessions top rows) busy = seat_more setup count k client s
+  pending_seat pending (Transfer to dir part depth index pieces bits sessions top rows) busy = seat_more setup count k client s
   pending_seat pending (Installed to dir part child) busy = seat_more setup count k client s
 
   seat_at_pending : (pending : Option Pending) (msg : Msg) → client.pending ≡ pending → IsSeat setup (count + 1) k (take_at client pending msg).client

@@ -39,7 +39,7 @@ missed servers to server state e is down = ap (λ o. events.is_there o && not (e
 
 misses_there : (servers : List ServerState) (msg : Msg) (server : ℕ) (state : ServerState) → server_for (Some msg) ≡ Some server → slice_get servers server ≡ Some state → state.up ≡ false → misses servers (Some msg) ≡ true
 misses_there servers (Request to ask cursor) server state meant is down = missed servers to server state (cc) is down
-misses_there servers (Transfer to dir part depth index count bits sessions top rows) server state meant is down = missed servers to server state (cc) is down
+misses_there servers (Transfer to dir part depth index pieces bits sessions top rows) server state meant is down = missed servers to server state (cc) is down
 misses_there servers (Installed to dir part child) server state meant is down = missed servers to server state (cc) is down
 misses_there servers (Redirect to seq attempt dir bits) server state meant is down = cc
 misses_there servers (Answer to seq attempt reply) server state meant is down = cc

@@ -37,7 +37,7 @@ pub record IsSeat (setup : Setup) (count k : ℕ) (client : ClientV) : Type 0 wh
 -- a message is well made, and one that is for a server is for one that is there
 abbrev pub IsSent : ℕ → Msg → Type 0
 IsSent servers (Request server ask cursor) = (server < servers) × IsMessage (Request server ask cursor)
-IsSent servers (Transfer server dir part depth index count bits sessions top rows) = server < servers
+IsSent servers (Transfer server dir part depth index pieces bits sessions top rows) = server < servers
 IsSent servers (Installed server dir part child) = server < servers
 IsSent servers msg = IsMessage msg
 

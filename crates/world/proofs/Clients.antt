@@ -138,7 +138,7 @@ merge_keeps t inv k seat dir bits may =
 request_more : (count : ℕ) (issued more : List IssuedV) (m : Msg) → RequestTrue count issued m → RequestTrue count (issued ++ more) m
 request_more count issued more (Request to ask cursor) r = record { issue = among_more more r.issue; part = r.part; kept = r.kept; there = r.there }
 request_more count issued more (Redirect client seq attempt dir bits) r = tt
-request_more count issued more (Transfer to dir part depth index count bits sessions top rows) r = tt
+request_more count issued more (Transfer to dir part depth index pieces bits sessions top rows) r = tt
 request_more count issued more (Answer client seq attempt reply) r = tt
 request_more count issued more (Busy client seq attempt part depth) r = tt
 request_more count issued more (Held client seq attempt until) r = tt

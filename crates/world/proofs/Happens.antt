@@ -1,5 +1,5 @@
 -- Each enabled event keeps the invariant.
-use Rattle.std.proofs.Common.{◌≡◌, ◌∙◌, sym, ap, subst, refl, ℕ, zero, suc, ◌+◌, ◌==◌, ◌&&◌, not, Bool, true, false, List, [], ◌∷◌, length, take, Option, Some, None, inl, inr, arith}
+use Rattle.std.proofs.Common.{◌≡◌, ◌∙◌, sym, ap, subst, refl, ℕ, zero, suc, ◌+◌, ◌^◌, ◌==◌, ◌&&◌, not, Bool, true, false, nat_lt, List, [], ◌∷◌, length, take, Option, Some, None, inl, inr, arith}
 use Rattle.std.specs.Prelude.{◌⊎◌, ◌||◌}
 use Rattle.std.specs.List.{slice_get, list_all, list_any}
 use Rattle.std.specs.FinSet as set
@@ -171,7 +171,7 @@ module _ (t : Trace) (inv : Inv t) (k : ℕ) (seat : ClientState) (is : slice_ge
       redirect_taken dir bits (inv.bits.sent_kept.at place (Redirect to seq attempt dir bits) at) (is_present seat.client pending seq attempt && (dir == dir_of pending.call))
   take_of (Page to seq attempt rows next) at is_for = stays t inv k seat is
   take_of (Closed to seq attempt part epoch) at is_for = stays t inv k seat is
-  take_of (Transfer to dir part depth index count bits sessions top rows) at is_for = cc
+  take_of (Transfer to dir part depth index pieces bits sessions top rows) at is_for = cc
   take_of (Request to ask cursor) at is_for = cc
   take_of (Installed to dir part child) at is_for = cc
 
@@ -234,8 +234,8 @@ serve_msg : (t : Trace) → Inv t → (s : ℕ) (state : ServerState) → slice_
     → (m : Option Msg) → slice_get t.world.sent place ≡ m → is_for_server s m ≡ true → Inv (after_serving t s state how (onto_msgs m []))
 serve_msg t inv s state is up numbers place ends.Done (Some (Request to ask cursor)) at is_for = request_keeps t inv s state is up numbers to ask cursor place at ends.Done
 serve_msg t inv s state is up numbers place ends.Stop (Some (Request to ask cursor)) at is_for = request_keeps t inv s state is up numbers to ask cursor place at ends.Stop
-serve_msg t inv s state is up numbers place ends.Done (Some (Transfer to dir part depth index count bits sessions top rows)) at is_for = idle_keeps t inv s state is
-serve_msg t inv s state is up numbers place ends.Stop (Some (Transfer to dir part depth index count bits sessions top rows)) at is_for =
+serve_msg t inv s state is up numbers place ends.Done (Some (Transfer to dir part depth index pieces bits sessions top rows)) at is_for = idle_keeps t inv s state is
+serve_msg t inv s state is up numbers place ends.Stop (Some (Transfer to dir part depth index pieces bits sessions top rows)) at is_for =
     count_keeps (with_server t s (record { node = state.node; rows = state.rows; up = false; doubt = [] })) (down_keeps t inv s state [] (record { is = is; follows = tt }))
 serve_msg t inv s state is up numbers place ends.Done (Some (Installed to dir part child)) at is_for = idle_keeps t inv s state is
 serve_msg t inv s state is up numbers place ends.Stop (Some (Installed to dir part child)) at is_for =

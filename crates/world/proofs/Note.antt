@@ -33,7 +33,7 @@ use Rattle.world.proofs.Invariant.{Inv, RowsKept, SessionsKept, MayCarry, AsksFo
 pub told_issue : (count : ℕ) (issued : List IssuedV) (client seq : ℕ) (call : Call) (m : Msg) → AsksFor client seq call m → RequestTrue count issued m → Among issued (λ j i. IsIssueOf i client seq call)
 told_issue count issued client seq call (Request to ask cursor) a r = among_map r.issue (λ j i h. record { client' = h.client' ∙ a.client'; seq' = h.seq' ∙ a.seq'; call' = h.call' ∙ a.call'; served = h.served })
 told_issue count issued client seq call (Redirect c q attempt d bits) a r = absurd a
-told_issue count issued client seq call (Transfer to d part depth index count bits sessions top rows) a r = absurd a
+told_issue count issued client seq call (Transfer to d part depth index pieces bits sessions top rows) a r = absurd a
 told_issue count issued client seq call (Answer c q attempt reply) a r = absurd a
 told_issue count issued client seq call (Busy c q attempt part depth) a r = absurd a
 told_issue count issued client seq call (Held c q attempt until) a r = absurd a

@@ -33,7 +33,7 @@ use Rattle.world.proofs.Note.{issue, is_new, was, before, rows_note, sessions_no
 pub answer_more : (made more : List MadeV) (k : ℕ) (m : Msg) → AnswerTrue made k m → AnswerTrue (made ++ more) k m
 answer_more made more k (Answer client seq attempt reply) a = among_more more a
 answer_more made more k (Redirect client seq attempt dir bits) a = tt
-answer_more made more k (Transfer to dir part depth index count bits sessions top rows) a = tt
+answer_more made more k (Transfer to dir part depth index pieces bits sessions top rows) a = tt
 answer_more made more k (Request to ask cursor) a = tt
 answer_more made more k (Busy client seq attempt part depth) a = tt
 answer_more made more k (Held client seq attempt until) a = tt

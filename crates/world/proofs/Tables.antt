@@ -3,6 +3,7 @@ use Rattle.std.proofs.Common.{◌≡◌, sym, ap, subst, refl, ℕ, List, [], �
 use Rattle.std.specs.Prelude.{◌⊎◌}
 use Rattle.std.specs.FinMap as map
 use Rattle.mds_base.specs.declared.attr.Attr.{Attr}
+use Rattle.mds_base.specs.declared.attr.Stamp.{Stamp}
 use Rattle.mds_base.specs.declared.call.Call.{Call}
 use Rattle.mds_base.specs.declared.call.Call.TheVariants.{Create, Mkdir, Remove, Lookup, Setattr, Scan, Grab, Load, Link, Seal, Unseal, Kill, Unlink}
 use Rattle.mds_base.specs.declared.reply.Final.{Final}
@@ -47,16 +48,16 @@ remove_allowed : (d : ℕ) (n : List ℕ) (fresh : ℕ) (o : Option Attr) → Ma
 remove_allowed d n fresh None = refl
 remove_allowed d n fresh (Some attr) = refl
 
-setattr_allowed : (d : ℕ) (n : List ℕ) (mode size fresh : ℕ) (o : Option Attr) → MatchOption o (Said (said_of (Setattr d n mode size stamp) o fresh) ≡ Said Missing) (λ _. Said (said_of (Setattr d n mode size stamp) o fresh) ≡ Said Set)
-setattr_allowed d n mode size fresh None = refl
-setattr_allowed d n mode size fresh (Some attr) = refl
+setattr_allowed : (d : ℕ) (n : List ℕ) (mode size : ℕ) (stamp : Option Stamp) (fresh : ℕ) (o : Option Attr) → MatchOption o (Said (said_of (Setattr d n mode size stamp) o fresh) ≡ Said Missing) (λ _. Said (said_of (Setattr d n mode size stamp) o fresh) ≡ Said Set)
+setattr_allowed d n mode size stamp fresh None = refl
+setattr_allowed d n mode size stamp fresh (Some attr) = refl
 
 allowed_at : (entries : Entries) (call : Call) (fresh : ℕ) (dir : ℕ) (name : List ℕ) → asked_of call ≡ ChangeOf dir name
     → Allows entries call (Said (said_of call (map.get entries (place_of (asked_of call))) fresh))
 allowed_at entries (Create d n) fresh dir name e = create_allowed d n fresh (map.get entries (d, n))
 allowed_at entries (Mkdir d n) fresh dir name e = mkdir_allowed d n fresh (map.get entries (d, n))
 allowed_at entries (Remove d n) fresh dir name e = remove_allowed d n fresh (map.get entries (d, n))
-allowed_at entries (Setattr d n mode size stamp) fresh dir name e = setattr_allowed d n mode size fresh (map.get entries (d, n))
+allowed_at entries (Setattr d n mode size stamp) fresh dir name e = setattr_allowed d n mode size stamp fresh (map.get entries (d, n))
 allowed_at entries (Lookup d n) fresh dir name e = cc
 allowed_at entries (Scan d) fresh dir name e = cc
 allowed_at entries (Grab d n count) fresh dir name e = cc

@@ -79,7 +79,7 @@ outputs_fit store (Busy client seq attempt part depth) now = each_none
 outputs_fit store (Held client seq attempt until) now = each_none
 outputs_fit store (Page client seq attempt rows next) now = each_none
 outputs_fit store (Closed client seq attempt part epoch) now = each_none
-outputs_fit store (Transfer server dir part depth index count bits sessions top rows) now = each_none
+outputs_fit store (Transfer server dir part depth index pieces bits sessions top rows) now = each_none
 outputs_fit store (Installed server dir part child) now = each_none
 
 served_records : (store : StoreV) (ask : Ask) (o : Outcome) → dir_of ask.call < 2 ^ 48 → Each (served_as store ask o).records (λ k item. RecordFits item)
@@ -96,7 +96,7 @@ records_fit store (Busy client seq attempt part depth) now fits = each_none
 records_fit store (Held client seq attempt until) now fits = each_none
 records_fit store (Page client seq attempt rows next) now fits = each_none
 records_fit store (Closed client seq attempt part epoch) now fits = each_none
-records_fit store (Transfer server dir part depth index count bits sessions top rows) now fits = each_none
+records_fit store (Transfer server dir part depth index pieces bits sessions top rows) now fits = each_none
 records_fit store (Installed server dir part child) now fits = each_none
 
 -- What taking leaves
@@ -125,7 +125,7 @@ take_pending_fits client pending (Held to seq attempt until) all fits = held_fit
 take_pending_fits client pending (Request to ask cursor) all fits = all
 take_pending_fits client pending (Page to seq attempt rows next) all fits = all
 take_pending_fits client pending (Closed to seq attempt part epoch) all fits = all
-take_pending_fits client pending (Transfer to dir part depth index count bits sessions top rows) all fits = all
+take_pending_fits client pending (Transfer to dir part depth index pieces bits sessions top rows) all fits = all
 take_pending_fits client pending (Installed to dir part child) all fits = all
 
 take_fits_at : (client : ClientV) (p : Option Pending) (msg : Msg) → PendingFits client.pending → PendingFits p → PendingFits (take_at client p msg).client.pending
