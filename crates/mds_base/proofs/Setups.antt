@@ -1,6 +1,6 @@
 -- The test of a setup says what the relation says.
-use Rattle.std.proofs.Common.{◌≡◌, ◌&&◌, Bool, true}
-use Rattle.std.specs.Prelude.{nat_le}
+use Rattle.std.proofs.Common.{◌≡◌, ◌∙◌, sym, ◌&&◌, Bool, true}
+use Rattle.std.specs.Prelude.{◌↔◌, IsTrue, nat_le}
 use Rattle.std.proofs.lemmas.Bool.{and_parts, and_from, leb-true, le-leb}
 use Rattle.mds_base.specs.declared.limits.TheConstants.{SERVERS_MOST, CLIENTS_MOST, LEASE_MOST, THRESHOLD_MOST}
 use Rattle.mds_base.specs.declared.setup.Setup.{Setup}
@@ -40,3 +40,6 @@ module _ (setup : Setup) where
       let clients = and_from (nat_le 1 setup.clients) (nat_le setup.clients CLIENTS_MOST) (le-leb 1 setup.clients is.some_client) (le-leb setup.clients CLIENTS_MOST is.few_clients) in
       let threshold = and_from (nat_le 1 setup.threshold) (nat_le setup.threshold THRESHOLD_MOST) (le-leb 1 setup.threshold is.some_row) (le-leb setup.threshold THRESHOLD_MOST is.few_rows) in
       and_from (servers_fit && clients_fit) (nat_le setup.lease LEASE_MOST && threshold_fits) (and_from servers_fit clients_fit servers clients) (and_from (nat_le setup.lease LEASE_MOST) threshold_fits (le-leb setup.lease LEASE_MOST is.lease) threshold)
+
+  pub setup_test : (b : Bool) → b ≡ is_setup setup → IsTrue b ↔ IsSetup setup
+  setup_test b is = (λ t. setup_is (sym is ∙ t), λ s. is ∙ setup_passes s)

@@ -1,5 +1,5 @@
-ghost use Rattle.std.specs.Prelude.{◌≡◌};
-ghost use Rattle.mds_base.specs.Setups.{is_setup};
+ghost use Rattle.std.specs.Prelude.{◌≡◌, ◌↔◌, IsTrue};
+ghost use Rattle.mds_base.specs.Setups.{IsSetup, is_setup};
 
 use crate::limits::{CLIENTS_MOST, LEASE_MOST, SERVERS_MOST, THRESHOLD_MOST};
 
@@ -19,12 +19,10 @@ pub struct Setup {
 impl Setup {
     /// Whether a run may be started with this: each number is within its range.
     pub fn is_fit(&self) -> bool
-        ensures { result ≡ is_setup self.now }
+        ensures test { result ≡ is_setup self.now }
+        ensures fit { IsTrue result ↔ IsSetup self.now }
     {
-        (1 <= self.servers && self.servers <= SERVERS_MOST)
-            && (1 <= self.clients && self.clients <= CLIENTS_MOST)
-            && (self.lease <= LEASE_MOST
-                && (1 <= self.threshold && self.threshold <= THRESHOLD_MOST))
+        are_within(self)
     }
 }
 
@@ -41,4 +39,13 @@ pub enum Which {
     Moment,
     /// The directory numbers that are left at a server.
     Directories,
+}
+
+fn are_within(setup: &Setup) -> bool
+    ensures { result ≡ is_setup setup.now }
+{
+    (1 <= setup.servers && setup.servers <= SERVERS_MOST)
+        && (1 <= setup.clients && setup.clients <= CLIENTS_MOST)
+        && (setup.lease <= LEASE_MOST
+            && (1 <= setup.threshold && setup.threshold <= THRESHOLD_MOST))
 }
