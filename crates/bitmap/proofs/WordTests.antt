@@ -1,5 +1,5 @@
 -- What a bitmap has to have and lacks, a word at a time.
-use Rattle.std.proofs.Common.{◌≡◌, ℕ, suc, ◌+◌, ◌-◌, ◌*◌, ◌/◌, ◌%◌, ◌^◌, ◌<◌, ◌≤◌, ◌⊎◌, ◌↔◌, ◌==◌, inl, inr, Bool, IsTrue, List, length, slice_index, bit_and, bit_or, min, sym, ap, ◌∙◌, subst, arith, pow_pos, pow_mono, w64}
+use Rattle.std.proofs.Common.{◌≡◌, ℕ, suc, ◌+◌, ◌-◌, ◌*◌, ◌/◌, ◌%◌, ◌^◌, ◌<◌, ◌≤◌, ◌⊎◌, ◌↔◌, ◌==◌, inl, inr, Bool, IsTrue, List, length, slice_index, bit_and, bit_or, min, sym, ap, ◌∙◌, subst, arith, pow_pos, pow_mono}
 use mir.Val.{bool_byte}
 use Rattle.std.proofs.lemmas.List.{get_or_past}
 use Rattle.std.specs.Int.{bit_at, bit_not, trailing_zeros}
@@ -9,7 +9,7 @@ use Rattle.std.proofs.lemmas.Nat.Bits.{bit_at-lt, bit_at-zero, bit_at_or, bit_at
 use Rattle.chains.specs.WellFormed.{IsRequired, IsMissing, IsLeastMissing}
 use Rattle.chains.proofs.Shifts.{bit_at_shr, bit_at_shl_low, bit_at_shl_high}
 use Rattle.bitmap.specs.Bits.{has}
-use Rattle.bitmap.specs.Words.{word_count, word_bits, SpellsFrom, set_of}
+use Rattle.bitmap.specs.Words.{word_count, word_bits, word_width, SpellsFrom, set_of}
 use Rattle.bitmap.specs.WordLaws.{has_set_at, place_bit}
 use Rattle.bitmap.proofs.Edits.{bit_past}
 
@@ -169,12 +169,12 @@ pub none_missing : {r : ℕ} {b : ℕ → Bool} (n : ℕ) → 2 ^ r ≤ n → ((
 none_missing {r} {b} n all none m lacks = none m (omega (arith, required_below b m lacks.1)) lacks
 
 abbrev missing_in : List ℕ → ℕ → ℕ → ℕ
-missing_in words row required = bit_and required (bit_not w64 (slice_index words row))
+missing_in words row required = bit_and required (bit_not word_width (slice_index words row))
 
 missing_bit : (words : List ℕ) (row required i : ℕ) → ((k : ℕ) → slice_index words k < 2 ^ word_bits) → i < word_bits → bit_at (missing_in words row required) i ≡ min (bit_at required i) (1 - bit_at (slice_index words row) i)
 missing_bit words row required i fits low =
-    bit_at_and required (bit_not w64 (slice_index words row)) i
-    ∙ ap (min (bit_at required i)) (bit_at_not w64 (slice_index words row) i (fits row) low)
+    bit_at_and required (bit_not word_width (slice_index words row)) i
+    ∙ ap (min (bit_at required i)) (bit_at_not word_width (slice_index words row) i (fits row) low)
 
 -- a bit of what a word misses is a number that is missing
 missing_at : {r : ℕ} (words : List ℕ) (row required i : ℕ) → length words ≡ word_count → ((k : ℕ) → slice_index words k < 2 ^ word_bits) → SpellsFrom (IsRequired r (has (set_of words))) (row * word_bits) required → i < word_bits → (bit_at (missing_in words row required) i ≡ 1) ↔ IsMissing r (has (set_of words)) (row * word_bits + i)
@@ -194,12 +194,12 @@ missing_at {r} words row required i count fits spells low =
           omega (arith, is, (spells.at i low).1 lacks.1),
     )
 
-pub missing_least : {r : ℕ} (words : List ℕ) (row required : ℕ) → length words ≡ word_count → ((k : ℕ) → slice_index words k < 2 ^ word_bits) → required < 2 ^ word_bits → SpellsFrom (IsRequired r (has (set_of words))) (row * word_bits) required → ((m : ℕ) → m < row * word_bits → IsMissing r (has (set_of words)) m → ⊥) → 0 < missing_in words row required → IsLeastMissing r (has (set_of words)) (row * word_bits + trailing_zeros w64 (missing_in words row required))
+pub missing_least : {r : ℕ} (words : List ℕ) (row required : ℕ) → length words ≡ word_count → ((k : ℕ) → slice_index words k < 2 ^ word_bits) → required < 2 ^ word_bits → SpellsFrom (IsRequired r (has (set_of words))) (row * word_bits) required → ((m : ℕ) → m < row * word_bits → IsMissing r (has (set_of words)) m → ⊥) → 0 < missing_in words row required → IsLeastMissing r (has (set_of words)) (row * word_bits + trailing_zeros word_width (missing_in words row required))
 missing_least {r} words row required count fits fit spells none some =
     let x = missing_in words row required in
-    let small : x < 2 ^ word_bits = omega (arith, and_le_l required (bit_not w64 (slice_index words row))) in
-    let lowest = bit_at-trailing_zeros w64 x some small in
-    let t = trailing_zeros w64 x in
+    let small : x < 2 ^ word_bits = omega (arith, and_le_l required (bit_not word_width (slice_index words row))) in
+    let lowest = bit_at-trailing_zeros word_width x some small in
+    let t = trailing_zeros word_width x in
     record {
       missing = (missing_at words row required t count fits spells lowest.0).0 lowest.1;
       least = λ m lacks.

@@ -101,9 +101,11 @@ impl Bitmap {
 
         // Where the child was there, and where it was not.
         ensures stays { IsTrue (has self.old (part + 2 ^ depth)) → self.new ≡ self.old }
-        ensures depths { has self.old (part + 2 ^ depth) ≡ false → OnOk result (SplitsAt RADIX self.old self.new part depth) }
+        ensures depths { has self.old (part + 2 ^ depth) ≡ false
+            → OnOk result (SplitsAt RADIX self.old self.new part depth) }
         ensures halves { has self.old (part + 2 ^ depth) ≡ false → OnOk result
-            (IsHalved (range_of RADIX self.old part) (range_of RADIX self.new part) (range_of RADIX self.new (part + 2 ^ depth))) }
+            (IsHalved (range_of RADIX self.old part) (range_of RADIX self.new part)
+            (range_of RADIX self.new (part + 2 ^ depth))) }
     {
         if let Some(bit) = least_lacking(&self.words, part, depth) {
             return Err(NoParent { bit });
@@ -146,7 +148,8 @@ impl Bitmap {
         ensures value { result ≡ range_of RADIX self.now part }
 
         // A hash is in the range, and located at the partition, exactly where its reversed form lies in the span.
-        ensures holds { (hash : ℕ) → (hash % 2 ^ depth_of RADIX part (has self.now) ≡ part) ↔ IsInside result (reversed 64 hash) }
+        ensures holds { (hash : ℕ)
+            → (hash % 2 ^ depth_of RADIX part (has self.now) ≡ part) ↔ IsInside result (reversed 64 hash) }
         ensures locates { (hash : ℕ) → (located RADIX hash (has self.now) ≡ part) ↔ IsInside result (reversed 64 hash) }
     {
         let first = reverse(u64::from(part));

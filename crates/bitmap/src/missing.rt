@@ -15,7 +15,6 @@ fn word_at(words: &[u64; WORDS], row: usize) -> u64
 
 /// The bits from bit `first` on, in one word; those past the last word are not set.
 fn bits_from(words: &[u64; WORDS], first: u32) -> u64
-    requires { first < 2 ^ 31 }
     ensures { SpellsFrom (λ m. IsTrue (has (set_of words.now) m)) first result }
 {
     let row = (first / WORD_BITS) as usize;
@@ -28,7 +27,7 @@ fn bits_from(words: &[u64; WORDS], first: u32) -> u64
     }
 }
 
-/// The word with so many of its lowest bits set, all of them from 64 on.
+/// The word with its `count` lowest bits set, and all 64 where there are more.
 fn low_bits(count: u32) -> u64
     requires { 0 < count }
     ensures { result ≡ 2 ^ min count word_bits - 1 }
@@ -55,7 +54,8 @@ fn required_in(words: &[u64; WORDS], row: u32) -> u64
 
 /// The least bit that a well-formed bitmap with these bits has to have and that is not set, found a word at a time.
 pub fn least_missing(words: &[u64; WORDS]) -> Option<u32>
-    ensures { MatchOption result ((m : ℕ) → IsMissing RADIX (has (set_of words.now)) m → ⊥) (IsLeastMissing RADIX (has (set_of words.now))) }
+    ensures { MatchOption result ((m : ℕ) → IsMissing RADIX (has (set_of words.now)) m → ⊥)
+        (IsLeastMissing RADIX (has (set_of words.now))) }
 {
     for row in 0..WORDS {
         let missing = required_in(words, row as u32) & !words[row];

@@ -10,10 +10,13 @@ pub fn laws_of_locating()
         → OnChain radix hash x → OnChain radix hash y → y ≤ x → IsTrue (set x) → IsTrue (set y) }
 
     // The located partition is the greatest element of the chain with all elements up to it in the set.
-    ensures greatest { (radix hash : ℕ) → (set : ℕ → Bool) → IsTrue (set 0) → IsLocated radix hash set (located radix hash set) }
-    ensures unique { (radix hash x y : ℕ) → (set : ℕ → Bool) → IsLocated radix hash set x → IsLocated radix hash set y → x ≡ y }
+    ensures greatest { (radix hash : ℕ) → (set : ℕ → Bool) → IsTrue (set 0)
+        → IsLocated radix hash set (located radix hash set) }
+    ensures unique { (radix hash x y : ℕ) → (set : ℕ → Bool) → IsLocated radix hash set x → IsLocated radix hash set y
+        → x ≡ y }
     ensures on_chain { (radix hash : ℕ) → (set : ℕ → Bool) → OnChain radix hash (located radix hash set) }
-    ensures in_set { (radix hash : ℕ) → (set : ℕ → Bool) → IsWellFormed radix set → IsTrue (set (located radix hash set)) }
+    ensures in_set { (radix hash : ℕ) → (set : ℕ → Bool) → IsWellFormed radix set
+        → IsTrue (set (located radix hash set)) }
     ensures above { (radix hash x : ℕ) → (set : ℕ → Bool) → IsWellFormed radix set
         → OnChain radix hash x → IsTrue (set x) → x ≤ located radix hash set }
     ensures at { (radix hash x : ℕ) → (set : ℕ → Bool) → IsWellFormed radix set → OnChain radix hash x → IsTrue (set x)

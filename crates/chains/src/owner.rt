@@ -9,16 +9,18 @@ ghost use Rattle.chains.specs.Depth.{HasChildren, HasOtherChildren, HasChildrenB
 /// where the smaller locates a hash, and where the greater does (`docs/DEFINITIONS.md`, "Locate").
 pub fn laws_of_owners()
     // Both locate it at the same partition, where the smaller set has all children of that partition,
-    ensures quiet { (radix hash part : ℕ) → (small large : ℕ → Bool) → IsWellFormed radix small → IsWellFormed radix large
-        → IsWithin small large → located radix hash small ≡ part → HasChildren part small large → located radix hash large ≡ part }
+    ensures quiet { (radix hash part : ℕ) → (small large : ℕ → Bool) → IsWellFormed radix small
+        → IsWellFormed radix large → IsWithin small large → located radix hash small ≡ part
+        → HasChildren part small large → located radix hash large ≡ part }
 
     // or all but the one that is being made, where the hash is not in its half or the greater set has it not either.
-    ensures moving { (radix hash part depth : ℕ) → (small large : ℕ → Bool) → IsWellFormed radix small → IsWellFormed radix large
-        → IsWithin small large → located radix hash small ≡ part → HasOtherChildren part depth small large
-        → bit_at hash depth ≡ 0 → located radix hash large ≡ part }
-    ensures frozen { (radix hash part depth : ℕ) → (small large : ℕ → Bool) → IsWellFormed radix small → IsWellFormed radix large
-        → IsWithin small large → located radix hash small ≡ part → HasOtherChildren part depth small large
-        → large (part + 2 ^ depth) ≡ false → located radix hash large ≡ part }
+    ensures moving { (radix hash part depth : ℕ) → (small large : ℕ → Bool) → IsWellFormed radix small
+        → IsWellFormed radix large → IsWithin small large → located radix hash small ≡ part
+        → HasOtherChildren part depth small large → bit_at hash depth ≡ 0 → located radix hash large ≡ part }
+    ensures frozen { (radix hash part depth : ℕ) → (small large : ℕ → Bool) → IsWellFormed radix small
+        → IsWellFormed radix large → IsWithin small large → located radix hash small ≡ part
+        → HasOtherChildren part depth small large → large (part + 2 ^ depth) ≡ false
+        → located radix hash large ≡ part }
 
     // A hash in that half has the child on its chain.
     ensures frozen_child { (radix hash part depth : ℕ) → (small large : ℕ → Bool) → IsWellFormed radix small

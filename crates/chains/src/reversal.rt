@@ -60,11 +60,11 @@ pub fn laws_of_spans()
         → y ≤ last_of width part (depth_of radix part set) → located radix (reversed width y) set ≡ part }
 
     // So are the places of the span at a lower depth from which on there is no child.
-    ensures active { (radix width part depth y : ℕ) → (set : ℕ → Bool) → IsWellFormed radix set → radix ≤ width → depth ≤ radix
-        → part < 2 ^ depth → IsTrue (set part) → HasNoChildrenFrom part depth set → y < 2 ^ width
+    ensures active { (radix width part depth y : ℕ) → (set : ℕ → Bool) → IsWellFormed radix set → radix ≤ width
+        → depth ≤ radix → part < 2 ^ depth → IsTrue (set part) → HasNoChildrenFrom part depth set → y < 2 ^ width
         → IsInSpan width part depth y → located radix (reversed width y) set ≡ part }
-    ensures active_to_end { (radix width part depth x y : ℕ) → (set : ℕ → Bool) → IsWellFormed radix set → radix ≤ width → depth ≤ radix
-        → IsTrue (set part) → HasNoChildrenFrom part depth set → x < 2 ^ width → y < 2 ^ width
-        → reversed width x % 2 ^ depth ≡ part → x ≤ y → y ≤ last_of width part depth
+    ensures active_to_end { (radix width part depth x y : ℕ) → (set : ℕ → Bool) → IsWellFormed radix set
+        → radix ≤ width → depth ≤ radix → IsTrue (set part) → HasNoChildrenFrom part depth set → x < 2 ^ width
+        → y < 2 ^ width → reversed width x % 2 ^ depth ≡ part → x ≤ y → y ≤ last_of width part depth
         → located radix (reversed width y) set ≡ part }
 {}

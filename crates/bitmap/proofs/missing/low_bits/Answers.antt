@@ -5,5 +5,5 @@ use Rattle.bitmap.proofs.missing.low_bits.Goals as goal
 
 pub returns : goal.returns
 returns c =
-    let back : 64 - (64 - c.min.result) ≡ min c.args.count word_bits = omega (arith, c.min.ensures) in
-    ones_shr 64 (64 - c.min.result) (omega arith) ∙ ap (λ k. 2 ^ k - 1) back
+    let back : word_bits - (word_bits - c.min.result) ≡ min c.args.count word_bits = omega (arith, c.min.ensures) in
+    ones_shr word_bits (word_bits - c.min.result) (omega arith) ∙ ap (λ k. 2 ^ k - 1) back
