@@ -1,7 +1,8 @@
 //! The outside of the service, as traits that the program is generic over, and their forms in memory.
 //!
-//! It stands on std alone. Each trait that can fail has a count of faults that never falls, and its one contract is
-//! that a refusal comes only where that count rose: so a caller that answers with a fault can show whose fault it is.
+//! It stands on std and `thiserror`. Each trait that can fail has a count of faults that never falls, and its one
+//! contract is that a refusal comes only where that count rose: so a caller that answers with a fault can show whose
+//! fault it is.
 //! A `Source` gives bytes and a `Sink` takes them, in pieces of any size. A `Disk` has numbered files, and says what a
 //! crash may leave of them at each moment. Where the value tells what it holds, each call's clause says which bytes.
 //! `BytesIn`, `BytesOut` and `Memory` tell everything, and fail at the calls that their maker named; a `Fuse` makes
