@@ -8,13 +8,18 @@ ghost use Rattle.mds_out.specs.Images.{IsTorn, IsShortened, StepsGiveImages, Ima
 ghost use Rattle.mds_out.specs.Disk.{Image, Tells, Contents, Lengths, put, Shows, IsUnchanged, IsElsewhereUnchanged, AreSame, Follows, Elapses, IsReading, IsChanging};
 
 use std::alloc::{AllocError, AllocFailed};
+use thiserror::Error;
 
 /// Why a disk refused a call.
-#[derive(Clone, Copy, Debug, PartialEq, Eq)]
+#[derive(Clone, Copy, Debug, PartialEq, Eq, Error)]
 pub enum DiskFault {
-    /// The device failed; the disk's count of faults has risen.
+    /// The device failed; the disk's count of faults has risen. A write or a cut may have been done in part, and any
+    /// other call has changed nothing that a read gives.
+    #[error("device fault")]
     Device,
-    /// The disk found no memory. `length` and `read` never answer it.
+    /// The disk found no memory, and its count of faults is as before: it never stands for a fault of the device.
+    /// `length` and `read` never answer it. A write or a cut may have been done in part.
+    #[error("out of memory")]
     OutOfMemory,
 }
 
