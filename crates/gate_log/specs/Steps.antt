@@ -2,7 +2,8 @@
 use Rattle.std.specs.Prelude.{◌≡◌, ◌≢◌, ◌+◌, ◌<◌, ◌^◌, ℕ, List, ◌∷◌, ◌++◌, length, drop, ⊤}
 use Rattle.gate_log.specs.declared.scan.Step.{Step}
 use Rattle.gate_log.specs.declared.scan.Step.TheVariants.{Closed, Body, Lacking}
-use Rattle.gate_log.specs.Log.{framed, IsLacking}
+use Rattle.gate_log.specs.Frame.{framed}
+use Rattle.gate_log.specs.Log.{IsLacking}
 
 -- a closed gate
 pub record IsClosedAt (place : ℕ) (bytes : List ℕ) : Type 0 where

@@ -2,7 +2,7 @@
 ghost use Rattle.std.specs.Prelude.{◌≡◌, ◌+◌, ◌^◌, ◌<◌, ◌≤◌, ◌++◌, ◌∷◌, [], List, ℕ, Ok, Err, Some, None, true, false, length, IfOk, IfErr, OnOk, OnErr, IsErrOf, IfSome, MatchOption};
 ghost use Rattle.gate_log.specs.Calls.{IsDiskAnswer, IsOpenAnswer, IsMaking, IsGateAt, IsSomeGate, IsReplayed, HasRead, ReadsOn};
 ghost use Rattle.gate_log.specs.Found.{IsFound};
-ghost use Rattle.gate_log.specs.Log.{IsBeforeOrAfter, HoldsOneLog, IsEitherLogOrShort, LengthsAddUp, OneMoreIsLonger, BodiesStand};
+ghost use Rattle.gate_log.specs.Log.{IsBeforeOrAfter, HoldsOneLog, IsEitherLogOrShort, IsShortAtOnePlace, LengthsAddUp, OneMoreIsLonger, BodiesStand};
 ghost use Rattle.gate_log.specs.LogState.{open_log, IsReady, HasBodies, IsElsewhereOld, HasLogCause};
 ghost use Rattle.gate_log.specs.Refusals.{log_fault_of, IsReplayRefusal, IsEndReady, IsShortEnd};
 ghost use Rattle.gate_log.specs.declared.gate_log.LogFault.TheVariants.{OutOfMemory};
@@ -10,7 +10,7 @@ ghost use Rattle.mds_out.specs.Disk.{LeavesOnly, IsUnchanged, IsElsewhereUnchang
 ghost use Rattle.mds_out.specs.Known.{OnTold};
 
 use crate::Piece;
-use crate::bodies::body_at;
+use crate::frame::body_at;
 use crate::scan::{Found, end_of};
 use crate::writes::{append_at, write_synced};
 use mds_out::{Disk, DiskFault};
@@ -206,11 +206,12 @@ impl GateLog {
     }
 }
 
-/// The law that makes a log's bodies and `BadLog` exact: a file holds one log at most, and a file that is cut short
-/// holds none.
+/// The law that makes a log's bodies and `BadLog` exact: a file holds one log at most; a file that is cut short holds
+/// none, and is so at one place alone.
 pub fn one_log_law()
     ensures one_log { HoldsOneLog }
     ensures either { IsEitherLogOrShort }
+    ensures one_place { IsShortAtOnePlace }
 {}
 
 /// The law of places: how long a log is, and where each of its bodies stands, is a matter of its bodies.
