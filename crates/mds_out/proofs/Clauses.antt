@@ -5,7 +5,7 @@ use Rattle.mds_out.specs.declared.disk.DiskFault.{DiskFault}
 use Rattle.mds_out.specs.Content.{bytes_of, left_of}
 use Rattle.mds_out.specs.Disk.{Image, Follows, Shows}
 use Rattle.mds_out.specs.Images.{IsTorn, IsShortened}
-use Rattle.mds_out.specs.Past.{Act, Changed, Synced, Restarted, Past, content_of, IsPastImage, IsDone, with_act, counted}
+use Rattle.mds_out.specs.Past.{Act, Changed, Synced, Restarted, Past, content_of, IsPastImage, IsDone, with_act, asked_for}
 use Rattle.mds_out.proofs.Acted.{write_follows, cut_follows, untouched_torn, uncut_shortened, sync_durable, sync_images, restart_left, restart_shows, restart_images}
 
 -- what may be left of a past
@@ -13,7 +13,7 @@ abbrev pub ImagesOf : Past → Image → Type 0
 ImagesOf past = IsPastImage past.outcome past.acts
 
 -- the call did its act or nothing
-pub did_or_not : {T : Type 0} (act : Act) (old new : Past) (result : Result T DiskFault) → IsDone act old new result → (new ≡ with_act old act) ⊎ (new ≡ counted old)
+pub did_or_not : {T : Type 0} (act : Act) (old new : Past) (result : Result T DiskFault) → IsDone act old new result → (new ≡ with_act old act) ⊎ (new ≡ asked_for old act)
 did_or_not act old new (Ok x) is = inl is.done
 did_or_not act old new (Err e) is = inr is.refused
 

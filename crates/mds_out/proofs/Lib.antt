@@ -1,5 +1,7 @@
 pub mod Acted
+pub mod Calling
 pub mod Clauses
+pub mod Counting
 pub mod Crash
 pub mod Failing
 pub mod Kept

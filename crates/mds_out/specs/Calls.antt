@@ -10,6 +10,10 @@ is_failing fails number = nat_lt number (2 ^ 64 - 1) && list_any (λ x. x == num
 abbrev pub next_number : ℕ → ℕ
 next_number number = min (number + 1) (2 ^ 64 - 1)
 
+-- the number after so many calls more, which stays at the greatest u64
+abbrev pub number_on : ℕ → ℕ → ℕ
+number_on number calls = min (number + calls) (2 ^ 64 - 1)
+
 -- how many of the first calls have failed
 abbrev pub failed_calls : List ℕ → ℕ → ℕ
 failed_calls fails zero = 0

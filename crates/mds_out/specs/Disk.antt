@@ -80,3 +80,22 @@ pub record HasDiskCause {T : Type 0} (before now : ℕ) (result : Result T DiskF
   pub device : IsErrOf result Device → Rose before now
   pub memory : IsErrOf result OutOfMemory → now ≡ before
   pub kept : OnOk result (now ≡ before)
+
+-- A call that changes nothing, as `length` and `read`, or a run of such calls up to this answer: what a read gives, the
+-- images and the count of writes and cuts are as before.
+pub record IsReading {D T : Type 0} (seen : D → Contents) (sizes : D → Lengths) (images : D → Image → Type 0) (moment : D → ℕ) (since : D → ℕ → Image → Type 0)
+    (faults changes_asked : D → ℕ) (leads fails_by : D → D → Type 0) (old new : D) (result : Result T DiskFault) : Type 0 where
+  pub unchanged : IsUnchanged (seen old) (seen new) (sizes old) (sizes new)
+  pub crash : AreSame (images old) (images new)
+  pub time : Elapses (moment old) (moment new) (since old) (since new) (images new)
+  pub no_memory : IsErrOf result OutOfMemory → ⊥
+  pub cause : HasDiskCause (faults old) (faults new) result
+  pub lasts : leads old new
+  pub failed : IsErrOf result Device → fails_by old new
+  pub changes : changes_asked new ≡ changes_asked old
+
+-- A call that may change something, as the others, or a run of calls up to this answer.
+pub record IsChanging {D T : Type 0} (faults : D → ℕ) (leads fails_by : D → D → Type 0) (old new : D) (result : Result T DiskFault) : Type 0 where
+  pub cause : HasDiskCause (faults old) (faults new) result
+  pub lasts : leads old new
+  pub failed : IsErrOf result Device → fails_by old new

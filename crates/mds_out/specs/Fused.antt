@@ -1,6 +1,8 @@
--- What a fuse round a disk is: the disk, how many calls still pass where it is armed, and how many it refused.
-use Rattle.std.specs.Prelude.{◌≡◌, ℕ, ◌+◌, ◌-◌, ◌^◌, ◌≤◌, min, Option, None, Some, Result, Bool, true, false, ◌==◌, MatchBool}
+-- What a fuse round a disk is: the disk, how many calls still pass where it is armed, how many it refused, and how many
+-- of these were writes or cuts.
+use Rattle.std.specs.Prelude.{◌≡◌, ℕ, ◌+◌, ◌-◌, ◌≤◌, Option, None, Some, Result, Bool, true, false, ◌==◌, MatchBool}
 use Rattle.mds_out.specs.declared.disk.DiskFault.{DiskFault}
+use Rattle.mds_out.specs.Calls.{next_number, number_on}
 use Rattle.mds_out.specs.Fault.{Rose}
 use Rattle.mds_out.specs.Past.{is_device}
 
@@ -8,6 +10,7 @@ pub record Fused (D : Type 0) : Type 0 where
   pub inner : D
   pub left : Option ℕ
   pub refused : ℕ
+  pub refused_changes : ℕ
 
 -- no call passes any more
 abbrev pub is_blown : Option ℕ → Bool
@@ -23,19 +26,36 @@ one_less (Some left) = Some (left - 1)
 abbrev pub fused_faults : {D : Type 0} → (D → ℕ) → Fused D → ℕ
 fused_faults faults fuse = faults fuse.inner + fuse.refused
 
+-- the calls that the fuse was asked: those of the disk and those that it refused
+abbrev pub fused_asked : {D : Type 0} → (D → ℕ) → Fused D → ℕ
+fused_asked asked fuse = number_on (asked fuse.inner) fuse.refused
+
+-- the same of writes and cuts
+abbrev pub fused_changes : {D : Type 0} → (D → ℕ) → Fused D → ℕ
+fused_changes changes fuse = number_on (changes fuse.inner) fuse.refused_changes
+
+-- after a call that looks, syncs or restarts was refused
+abbrev pub look_refused : {D : Type 0} → Fused D → Fused D
+look_refused fuse = record fuse { refused = next_number fuse.refused }
+
+-- after a write or a cut was refused
+abbrev pub change_refused : {D : Type 0} → Fused D → Fused D
+change_refused fuse = record fuse { refused = next_number fuse.refused; refused_changes = next_number fuse.refused_changes }
+
 -- a call that the fuse refused: the disk is not called, and the answer is `Device`
-pub record IsRefused {D T : Type 0} (old new : Fused D) (result : Result T DiskFault) : Type 0 where
+pub record IsRefused {D T : Type 0} (after : Fused D → Fused D) (old new : Fused D) (result : Result T DiskFault) : Type 0 where
   pub answer : is_device result ≡ true
-  pub same : new ≡ record old { refused = min (old.refused + 1) (2 ^ 64 - 1) }
+  pub same : new ≡ after old
 
 -- a call that passed: the fuse counts it, and refuses none
 pub record HasPassed {D : Type 0} (old new : Fused D) : Type 0 where
   pub left : new.left ≡ one_less old.left
   pub refused : new.refused ≡ old.refused
+  pub refused_changes : new.refused_changes ≡ old.refused_changes
 
 -- exactly the calls after those that pass are refused
-abbrev pub IsFused : {D T : Type 0} → Fused D → Fused D → Result T DiskFault → Type 0
-IsFused old new result = MatchBool (is_blown old.left) (IsRefused old new result) (HasPassed old new)
+abbrev pub IsFused : {D T : Type 0} → (Fused D → Fused D) → Fused D → Fused D → Result T DiskFault → Type 0
+IsFused after old new result = MatchBool (is_blown old.left) (IsRefused after old new result) (HasPassed old new)
 
 -- a fuse that is not armed, and has refused none since
 pub record IsUnarmed {D : Type 0} (old new : Fused D) : Type 0 where

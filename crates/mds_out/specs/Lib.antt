@@ -1,5 +1,6 @@
 pub mod Fault
 pub mod FaultLaws
+pub mod Fates
 pub mod Known
 pub mod Calls
 pub mod BytesIn

@@ -2,18 +2,24 @@
 ghost use Rattle.std.specs.Prelude.{◌≡◌, ◌+◌, ◌-◌, ◌*◌, ◌^◌, ◌<◌, ◌≤◌, List, ℕ, Option, Some, max, length, take, drop, IfOk, OnOk, OnErr, IsErrOf, ⊤};
 ghost use Rattle.mds_out.specs.declared.disk.DiskFault.TheVariants.{OutOfMemory};
 ghost use Rattle.mds_out.specs.Fault.{Rose};
+ghost use Rattle.mds_out.specs.Calls.{next_number};
 ghost use Rattle.mds_out.specs.Known.{OnKnown, OnTold};
 ghost use Rattle.mds_out.specs.Images.{IsTorn, IsShortened, StepsGiveImages, ImagesComeByStep};
-ghost use Rattle.mds_out.specs.Disk.{Image, Tells, Contents, Lengths, put, Shows, IsUnchanged, IsElsewhereUnchanged, AreSame, Follows, Elapses, HasDiskCause};
+ghost use Rattle.mds_out.specs.Disk.{Image, Tells, Contents, Lengths, put, Shows, IsUnchanged, IsElsewhereUnchanged, AreSame, Follows, Elapses, IsReading, IsChanging};
 
 use std::alloc::{AllocError, AllocFailed};
+use thiserror::Error;
 
 /// Why a disk refused a call.
-#[derive(Clone, Copy, Debug, PartialEq, Eq)]
+#[derive(Clone, Copy, Debug, PartialEq, Eq, Error)]
 pub enum DiskFault {
-    /// The device failed; the disk's count of faults has risen.
+    /// The device failed; the disk's count of faults has risen. A write or a cut may have been done in part, and any
+    /// other call has changed nothing that a read gives.
+    #[error("device fault")]
     Device,
-    /// The disk found no memory. `length` and `read` never answer it.
+    /// The disk found no memory, and its count of faults is as before: it never stands for a fault of the device.
+    /// `length` and `read` never answer it. A write or a cut may have been done in part.
+    #[error("out of memory")]
     OutOfMemory,
 }
 
@@ -63,30 +69,26 @@ pub trait Disk {
     /// That among the calls that led from the one disk to the other one was answered `Device`.
     ghost fails: { Self → Self → Type 0 };
 
+    /// How many calls the disk was asked, those that it refused among them. It stays at the greatest u64.
+    ghost asked: { Self → ℕ };
+
+    /// How many of these were writes or cuts.
+    ghost changes_asked: { Self → ℕ };
+
     /// The length of a file. Never `OutOfMemory`.
     fn length(&mut self, file: u32) -> Result<u64, DiskFault>
         ensures short { IfOk result (λ size. size < 2 ^ 63) }
         ensures told { IfOk result (λ size. (sizes self.new file ≡ Some size) × OnTold (sizes self.old file) (λ before. size ≡ before)) }
-        ensures unchanged { IsUnchanged (seen self.old) (seen self.new) (sizes self.old) (sizes self.new) }
-        ensures crash { AreSame (images self.old) (images self.new) }
-        ensures time { Elapses (moment self.old) (moment self.new) (images_since self.old) (images_since self.new) (images self.new) }
-        ensures no_memory { IsErrOf result DiskFault.OutOfMemory → ⊥ }
-        ensures cause { HasDiskCause (faults self.old) (faults self.new) result }
-        ensures lasts { lasts self.old self.new }
-        ensures failed { IsErrOf result DiskFault.Device → fails self.old self.new };
+        ensures call { IsReading seen sizes images moment images_since faults changes_asked lasts fails self.old self.new result }
+        ensures asked { asked self.new ≡ next_number (asked self.old) };
 
     /// Fills `into` with the bytes of a file from `at` on. Never `OutOfMemory`. After a refusal `into` holds any bytes.
     fn read(&mut self, file: u32, at: u64, into: &mut [u8]) -> Result<(), DiskFault>
         requires short { at + length into.old < 2 ^ 63 }
         requires within { OnTold (sizes self.old file) (λ size. at + length into.old ≤ size) }
         ensures bytes { OnOk result (OnTold (seen self.old file) (λ bytes. into.new ≡ take (length into.old) (drop at bytes))) }
-        ensures unchanged { IsUnchanged (seen self.old) (seen self.new) (sizes self.old) (sizes self.new) }
-        ensures crash { AreSame (images self.old) (images self.new) }
-        ensures time { Elapses (moment self.old) (moment self.new) (images_since self.old) (images_since self.new) (images self.new) }
-        ensures no_memory { IsErrOf result DiskFault.OutOfMemory → ⊥ }
-        ensures cause { HasDiskCause (faults self.old) (faults self.new) result }
-        ensures lasts { lasts self.old self.new }
-        ensures failed { IsErrOf result DiskFault.Device → fails self.old self.new };
+        ensures call { IsReading seen sizes images moment images_since faults changes_asked lasts fails self.old self.new result }
+        ensures asked { asked self.new ≡ next_number (asked self.old) };
 
     /// Writes over what is there, and past the end. A refused write touches its own range at most.
     fn write_at(&mut self, file: u32, at: u64, bytes: &[u8]) -> Result<(), DiskFault>
@@ -98,9 +100,9 @@ pub trait Disk {
         ensures elsewhere { IsElsewhereUnchanged file (seen self.old) (seen self.new) (sizes self.old) (sizes self.new) }
         ensures crash { Follows file (IsTorn at (length bytes.now)) (images self.old) (images self.new) }
         ensures time { Elapses (moment self.old) (moment self.new) (images_since self.old) (images_since self.new) (images self.new) }
-        ensures cause { HasDiskCause (faults self.old) (faults self.new) result }
-        ensures lasts { lasts self.old self.new }
-        ensures failed { IsErrOf result DiskFault.Device → fails self.old self.new };
+        ensures call { IsChanging faults lasts fails self.old self.new result }
+        ensures asked { asked self.new ≡ next_number (asked self.old) }
+        ensures changes { changes_asked self.new ≡ next_number (changes_asked self.old) };
 
     /// Cuts a file to a length. A refused cut touches the bytes from there on at most.
     fn cut(&mut self, file: u32, to: u64) -> Result<(), DiskFault>
@@ -111,9 +113,9 @@ pub trait Disk {
         ensures elsewhere { IsElsewhereUnchanged file (seen self.old) (seen self.new) (sizes self.old) (sizes self.new) }
         ensures crash { Follows file (IsShortened to) (images self.old) (images self.new) }
         ensures time { Elapses (moment self.old) (moment self.new) (images_since self.old) (images_since self.new) (images self.new) }
-        ensures cause { HasDiskCause (faults self.old) (faults self.new) result }
-        ensures lasts { lasts self.old self.new }
-        ensures failed { IsErrOf result DiskFault.Device → fails self.old self.new };
+        ensures call { IsChanging faults lasts fails self.old self.new result }
+        ensures asked { asked self.new ≡ next_number (asked self.old) }
+        ensures changes { changes_asked self.new ≡ next_number (changes_asked self.old) };
 
     /// After it a crash leaves of the file what a read gives. A refused sync changes no image.
     fn sync(&mut self, file: u32) -> Result<(), DiskFault>
@@ -122,9 +124,9 @@ pub trait Disk {
         ensures crash { (image : Image) → images self.new image → images self.old image }
         ensures refused { OnErr result (AreSame (images self.old) (images self.new)) }
         ensures time { Elapses (moment self.old) (moment self.new) (images_since self.old) (images_since self.new) (images self.new) }
-        ensures cause { HasDiskCause (faults self.old) (faults self.new) result }
-        ensures lasts { lasts self.old self.new }
-        ensures failed { IsErrOf result DiskFault.Device → fails self.old self.new };
+        ensures call { IsChanging faults lasts fails self.old self.new result }
+        ensures asked { asked self.new ≡ next_number (asked self.old) }
+        ensures changes { changes_asked self.new ≡ changes_asked self.old };
 
     /// Brings the disk up after a crash: what it tells then reads as one of the images that a crash could have left,
     /// and each image directly after it is one of those. It tells the files that it told before. A refused restart
@@ -136,9 +138,9 @@ pub trait Disk {
         ensures unchanged { OnErr result (IsUnchanged (seen self.old) (seen self.new) (sizes self.old) (sizes self.new)) }
         ensures refused { OnErr result (AreSame (images self.old) (images self.new)) }
         ensures time { Elapses (moment self.old) (moment self.new) (images_since self.old) (images_since self.new) (images self.new) }
-        ensures cause { HasDiskCause (faults self.old) (faults self.new) result }
-        ensures lasts { lasts self.old self.new }
-        ensures failed { IsErrOf result DiskFault.Device → fails self.old self.new };
+        ensures call { IsChanging faults lasts fails self.old self.new result }
+        ensures asked { asked self.new ≡ next_number (asked self.old) }
+        ensures changes { changes_asked self.new ≡ changes_asked self.old };
 
     /// A disk tells the length of each file whose bytes it tells.
     ghost tells_length: { (disk : Self) (file : ℕ) (bytes : List ℕ) → seen disk file ≡ Some bytes → sizes disk file ≡ Some (length bytes) };

@@ -1,9 +1,10 @@
 //! A fuse round a disk, which refuses calls from a chosen one on.
 ghost use Rattle.std.specs.Prelude.{◌≡◌, ◌+◌, ◌-◌, ◌*◌, ◌^◌, ◌<◌, ◌≤◌, None, Some, true, false, min, max, length, take, drop, IfOk, OnOk, OnErr, IsErrOf, MatchBool, ⊤, ℕ};
+ghost use Rattle.mds_out.specs.Calls.{next_number};
 ghost use Rattle.mds_out.specs.Known.{OnKnown, OnTold};
 ghost use Rattle.mds_out.specs.Images.{IsTorn, IsShortened};
-ghost use Rattle.mds_out.specs.Disk.{Image, Tells, put, Shows, IsUnchanged, IsElsewhereUnchanged, AreSame, Follows, Elapses, HasDiskCause};
-ghost use Rattle.mds_out.specs.Fused.{fused_faults, is_blown, one_less, IsFused, OutlastsBy, FailsBy};
+ghost use Rattle.mds_out.specs.Disk.{Image, Tells, put, Shows, IsUnchanged, IsElsewhereUnchanged, AreSame, Follows, Elapses, IsReading, IsChanging};
+ghost use Rattle.mds_out.specs.Fused.{fused_faults, fused_asked, fused_changes, look_refused, change_refused, is_blown, one_less, IsFused, OutlastsBy, FailsBy};
 ghost use Rattle.mds_out.specs.FusedLaws.{fused_here, fused_on, fused_fails_on, fused_fails_after};
 
 use crate::{Disk, DiskFault};
@@ -16,6 +17,7 @@ pub struct Fuse<D> {
     inner: D,
     left: Option<u64>,
     refused: u64,
+    refused_changes: u64,
 }
 
 impl<D> Model for Fuse<D> {
@@ -23,18 +25,19 @@ impl<D> Model for Fuse<D> {
 
     ghost Value = { Fused D };
 
-    ghost view = { λ f. record { inner = f.inner; left = f.left; refused = f.refused } };
+    ghost view = { λ f. record { inner = f.inner; left = f.left; refused = f.refused; refused_changes = f.refused_changes } };
 }
 
 impl<D> Fuse<D> {
     /// A fuse that is not armed.
     pub fn new(inner: D) -> Fuse<D>
-        ensures { result ≡ record { inner = inner; left = None; refused = 0 } }
+        ensures { result ≡ record { inner = inner; left = None; refused = 0; refused_changes = 0 } }
     {
         Fuse {
             inner,
             left: None,
             refused: 0,
+            refused_changes: 0,
         }
     }
 
@@ -60,9 +63,21 @@ impl<D> Fuse<D> {
         inner
     }
 
+    // Counts a write or a cut, and says whether it is refused.
+    fn refuses_change(&mut self) -> bool
+        ensures { MatchBool result ((is_blown self.old.left ≡ true) × (self.old.refused < 2 ^ 64) × (self.new ≡ change_refused self.old))
+            ((is_blown self.old.left ≡ false) × (self.new ≡ record self.old { left = one_less self.old.left })) }
+    {
+        if self.refuses() {
+            self.refused_changes = self.refused_changes.saturating_add(1);
+            return true;
+        }
+        false
+    }
+
     // Counts a call, and says whether it is refused.
     fn refuses(&mut self) -> bool
-        ensures { MatchBool result ((is_blown self.old.left ≡ true) × (self.old.refused < 2 ^ 64) × (self.new ≡ record self.old { refused = min (self.old.refused + 1) (2 ^ 64 - 1) }))
+        ensures { MatchBool result ((is_blown self.old.left ≡ true) × (self.old.refused < 2 ^ 64) × (self.new ≡ look_refused self.old))
             ((is_blown self.old.left ≡ false) × (self.new ≡ record self.old { left = one_less self.old.left })) }
     {
         match self.left {
@@ -96,6 +111,10 @@ impl<D: Disk> Disk for Fuse<D> {
 
     ghost fails = { FailsBy D.fails D.faults };
 
+    ghost asked = { fused_asked D.asked };
+
+    ghost changes_asked = { fused_changes D.changes_asked };
+
     ghost tells_length = { λ f. D.tells_length f.inner };
 
     ghost reads_as = { λ f. D.reads_as f.inner };
@@ -117,14 +136,10 @@ impl<D: Disk> Disk for Fuse<D> {
     fn length(&mut self, file: u32) -> Result<u64, DiskFault>
         ensures short { IfOk result (λ size. size < 2 ^ 63) }
         ensures told { IfOk result (λ size. (D.sizes self.new.inner file ≡ Some size) × OnTold (D.sizes self.old.inner file) (λ before. size ≡ before)) }
-        ensures unchanged { IsUnchanged (D.seen self.old.inner) (D.seen self.new.inner) (D.sizes self.old.inner) (D.sizes self.new.inner) }
-        ensures crash { AreSame (D.images self.old.inner) (D.images self.new.inner) }
-        ensures time { Elapses (D.moment self.old.inner) (D.moment self.new.inner) (D.images_since self.old.inner) (D.images_since self.new.inner) (D.images self.new.inner) }
-        ensures no_memory { IsErrOf result DiskFault.OutOfMemory → ⊥ }
-        ensures cause { HasDiskCause (fused_faults D.faults self.old) (fused_faults D.faults self.new) result }
-        ensures lasts { OutlastsBy D.lasts D.faults self.old self.new }
-        ensures failed { IsErrOf result DiskFault.Device → FailsBy D.fails D.faults self.old self.new }
-        ensures fused { IsFused self.old self.new result }
+        ensures call { IsReading (λ f. D.seen f.inner) (λ f. D.sizes f.inner) (λ f. D.images f.inner) (λ f. D.moment f.inner) (λ f. D.images_since f.inner)
+            (fused_faults D.faults) (fused_changes D.changes_asked) (OutlastsBy D.lasts D.faults) (FailsBy D.fails D.faults) self.old self.new result }
+        ensures asked { fused_asked D.asked self.new ≡ next_number (fused_asked D.asked self.old) }
+        ensures fused { IsFused look_refused self.old self.new result }
     {
         if self.refuses() {
             return Err(DiskFault::Device);
@@ -136,14 +151,10 @@ impl<D: Disk> Disk for Fuse<D> {
         requires short { at + length into.old < 2 ^ 63 }
         requires within { OnTold (D.sizes self.old.inner file) (λ size. at + length into.old ≤ size) }
         ensures bytes { OnOk result (OnTold (D.seen self.old.inner file) (λ bytes. into.new ≡ take (length into.old) (drop at bytes))) }
-        ensures unchanged { IsUnchanged (D.seen self.old.inner) (D.seen self.new.inner) (D.sizes self.old.inner) (D.sizes self.new.inner) }
-        ensures crash { AreSame (D.images self.old.inner) (D.images self.new.inner) }
-        ensures time { Elapses (D.moment self.old.inner) (D.moment self.new.inner) (D.images_since self.old.inner) (D.images_since self.new.inner) (D.images self.new.inner) }
-        ensures no_memory { IsErrOf result DiskFault.OutOfMemory → ⊥ }
-        ensures cause { HasDiskCause (fused_faults D.faults self.old) (fused_faults D.faults self.new) result }
-        ensures lasts { OutlastsBy D.lasts D.faults self.old self.new }
-        ensures failed { IsErrOf result DiskFault.Device → FailsBy D.fails D.faults self.old self.new }
-        ensures fused { IsFused self.old self.new result }
+        ensures call { IsReading (λ f. D.seen f.inner) (λ f. D.sizes f.inner) (λ f. D.images f.inner) (λ f. D.moment f.inner) (λ f. D.images_since f.inner)
+            (fused_faults D.faults) (fused_changes D.changes_asked) (OutlastsBy D.lasts D.faults) (FailsBy D.fails D.faults) self.old self.new result }
+        ensures asked { fused_asked D.asked self.new ≡ next_number (fused_asked D.asked self.old) }
+        ensures fused { IsFused look_refused self.old self.new result }
     {
         if self.refuses() {
             return Err(DiskFault::Device);
@@ -160,12 +171,12 @@ impl<D: Disk> Disk for Fuse<D> {
         ensures elsewhere { IsElsewhereUnchanged file (D.seen self.old.inner) (D.seen self.new.inner) (D.sizes self.old.inner) (D.sizes self.new.inner) }
         ensures crash { Follows file (IsTorn at (length bytes.now)) (D.images self.old.inner) (D.images self.new.inner) }
         ensures time { Elapses (D.moment self.old.inner) (D.moment self.new.inner) (D.images_since self.old.inner) (D.images_since self.new.inner) (D.images self.new.inner) }
-        ensures cause { HasDiskCause (fused_faults D.faults self.old) (fused_faults D.faults self.new) result }
-        ensures lasts { OutlastsBy D.lasts D.faults self.old self.new }
-        ensures failed { IsErrOf result DiskFault.Device → FailsBy D.fails D.faults self.old self.new }
-        ensures fused { IsFused self.old self.new result }
+        ensures call { IsChanging (fused_faults D.faults) (OutlastsBy D.lasts D.faults) (FailsBy D.fails D.faults) self.old self.new result }
+        ensures asked { fused_asked D.asked self.new ≡ next_number (fused_asked D.asked self.old) }
+        ensures changes { fused_changes D.changes_asked self.new ≡ next_number (fused_changes D.changes_asked self.old) }
+        ensures fused { IsFused change_refused self.old self.new result }
     {
-        if self.refuses() {
+        if self.refuses_change() {
             return Err(DiskFault::Device);
         }
         self.inner.write_at(file, at, bytes)
@@ -179,12 +190,12 @@ impl<D: Disk> Disk for Fuse<D> {
         ensures elsewhere { IsElsewhereUnchanged file (D.seen self.old.inner) (D.seen self.new.inner) (D.sizes self.old.inner) (D.sizes self.new.inner) }
         ensures crash { Follows file (IsShortened to) (D.images self.old.inner) (D.images self.new.inner) }
         ensures time { Elapses (D.moment self.old.inner) (D.moment self.new.inner) (D.images_since self.old.inner) (D.images_since self.new.inner) (D.images self.new.inner) }
-        ensures cause { HasDiskCause (fused_faults D.faults self.old) (fused_faults D.faults self.new) result }
-        ensures lasts { OutlastsBy D.lasts D.faults self.old self.new }
-        ensures failed { IsErrOf result DiskFault.Device → FailsBy D.fails D.faults self.old self.new }
-        ensures fused { IsFused self.old self.new result }
+        ensures call { IsChanging (fused_faults D.faults) (OutlastsBy D.lasts D.faults) (FailsBy D.fails D.faults) self.old self.new result }
+        ensures asked { fused_asked D.asked self.new ≡ next_number (fused_asked D.asked self.old) }
+        ensures changes { fused_changes D.changes_asked self.new ≡ next_number (fused_changes D.changes_asked self.old) }
+        ensures fused { IsFused change_refused self.old self.new result }
     {
-        if self.refuses() {
+        if self.refuses_change() {
             return Err(DiskFault::Device);
         }
         self.inner.cut(file, to)
@@ -196,10 +207,10 @@ impl<D: Disk> Disk for Fuse<D> {
         ensures crash { (image : Image) → D.images self.new.inner image → D.images self.old.inner image }
         ensures refused { OnErr result (AreSame (D.images self.old.inner) (D.images self.new.inner)) }
         ensures time { Elapses (D.moment self.old.inner) (D.moment self.new.inner) (D.images_since self.old.inner) (D.images_since self.new.inner) (D.images self.new.inner) }
-        ensures cause { HasDiskCause (fused_faults D.faults self.old) (fused_faults D.faults self.new) result }
-        ensures lasts { OutlastsBy D.lasts D.faults self.old self.new }
-        ensures failed { IsErrOf result DiskFault.Device → FailsBy D.fails D.faults self.old self.new }
-        ensures fused { IsFused self.old self.new result }
+        ensures call { IsChanging (fused_faults D.faults) (OutlastsBy D.lasts D.faults) (FailsBy D.fails D.faults) self.old self.new result }
+        ensures asked { fused_asked D.asked self.new ≡ next_number (fused_asked D.asked self.old) }
+        ensures changes { fused_changes D.changes_asked self.new ≡ fused_changes D.changes_asked self.old }
+        ensures fused { IsFused look_refused self.old self.new result }
     {
         if self.refuses() {
             return Err(DiskFault::Device);
@@ -214,10 +225,10 @@ impl<D: Disk> Disk for Fuse<D> {
         ensures unchanged { OnErr result (IsUnchanged (D.seen self.old.inner) (D.seen self.new.inner) (D.sizes self.old.inner) (D.sizes self.new.inner)) }
         ensures refused { OnErr result (AreSame (D.images self.old.inner) (D.images self.new.inner)) }
         ensures time { Elapses (D.moment self.old.inner) (D.moment self.new.inner) (D.images_since self.old.inner) (D.images_since self.new.inner) (D.images self.new.inner) }
-        ensures cause { HasDiskCause (fused_faults D.faults self.old) (fused_faults D.faults self.new) result }
-        ensures lasts { OutlastsBy D.lasts D.faults self.old self.new }
-        ensures failed { IsErrOf result DiskFault.Device → FailsBy D.fails D.faults self.old self.new }
-        ensures fused { IsFused self.old self.new result }
+        ensures call { IsChanging (fused_faults D.faults) (OutlastsBy D.lasts D.faults) (FailsBy D.fails D.faults) self.old self.new result }
+        ensures asked { fused_asked D.asked self.new ≡ next_number (fused_asked D.asked self.old) }
+        ensures changes { fused_changes D.changes_asked self.new ≡ fused_changes D.changes_asked self.old }
+        ensures fused { IsFused look_refused self.old self.new result }
     {
         if self.refuses() {
             return Err(DiskFault::Device);

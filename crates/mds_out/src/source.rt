@@ -4,8 +4,11 @@ ghost use Rattle.std.specs.Io.KnownBytes.{Keeps};
 ghost use Rattle.mds_out.specs.Fault.{HasCause};
 ghost use Rattle.mds_out.specs.Stream.{Gives};
 
-/// A call outside of the program did not succeed.
-#[derive(Clone, Copy, Debug, PartialEq, Eq)]
+use thiserror::Error;
+
+/// A call of a source or a sink did not succeed: its count of faults has risen, and it gave or took nothing.
+#[derive(Clone, Copy, Debug, PartialEq, Eq, Error)]
+#[error("the call failed")]
 pub struct Failed;
 
 /// Bytes that are read in pieces.

@@ -45,7 +45,7 @@ open_fault faults seen setup s old new OutOfMemory refused device = tt
 
 -- the server that is up on the disk, once a fuse is round it
 pub fused_up : {D : Type 0} (seen : D → Contents) (images : D → Image → Type 0) (setup : Setup) (s : ℕ) (old : D) (store : Store D) (fused : Store (Fused D))
-    → fused ≡ record { disk = record { inner = store.disk; left = None; refused = 0 }; server = store.server; setup = store.setup; log = store.log; up = store.up; doubt = store.doubt }
+    → fused ≡ record { disk = record { inner = store.disk; left = None; refused = 0; refused_changes = 0 }; server = store.server; setup = store.setup; log = store.log; up = store.up; doubt = store.doubt }
     → (store.server ≡ s) × (store.setup ≡ setup) → store.doubt ≡ [] → OnTold (seen old 1) (λ bytes. (st : StoreV) × FileStandsFor s setup bytes st × (store.up ≡ Some (opened_store st))) → IsHandedBack seen images setup s old store.disk
     → IsUpOn seen images setup s old fused
 fused_up seen images setup s old store fused is named sure opened back =
@@ -53,6 +53,6 @@ fused_up seen images setup s old store fused is named sure opened back =
 
 -- no call of which failed
 pub fused_counted : {D : Type 0} (faults : D → ℕ) (old : D) (store : Store D) (fused : Store (Fused D))
-    → fused ≡ record { disk = record { inner = store.disk; left = None; refused = 0 }; server = store.server; setup = store.setup; log = store.log; up = store.up; doubt = store.doubt }
+    → fused ≡ record { disk = record { inner = store.disk; left = None; refused = 0; refused_changes = 0 }; server = store.server; setup = store.setup; log = store.log; up = store.up; doubt = store.doubt }
     → faults store.disk ≡ faults old → IsCounted faults old fused
 fused_counted faults old store fused is same = subst (IsCounted faults old) (sym is) (omega (arith, same), refl)

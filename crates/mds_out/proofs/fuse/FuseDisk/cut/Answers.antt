@@ -1,5 +1,0 @@
-use Rattle.mds_out.proofs.Fusing.{refused_cause}
-use Rattle.mds_out.proofs.fuse.FuseDisk.cut.Goals as goal
-
-pub returns-then-refuses-clause-cause : goal.returns-then-refuses-clause-cause
-returns-then-refuses-clause-cause g c = refused_cause g.D.Disk.faults c.args.self.now c.refuses.new.self c.if-refuses.ensures.1 c.if-refuses.ensures.2
