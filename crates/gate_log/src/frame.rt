@@ -1,10 +1,11 @@
 //! The frame of a body: its length, its bytes and the gate behind it, as a piece writes it and a log reads it.
 ghost use Rattle.std.specs.Prelude.{◌≡◌, ◌+◌, ◌-◌, ◌^◌, ◌<◌, ◌≤◌, ◌++◌, ◌∷◌, [], List, ℕ, Some, length, drop, take, IfOk, IfErr, OnOk, IfSome, IsErrOf};
 ghost use Rattle.std.specs.Int.{to_be_bytes, from_be_bytes, w32};
-ghost use Rattle.gate_log.specs.Calls.{IsGateAt, IsSomeGate, IsReplayed};
+ghost use Rattle.gate_log.specs.Calls.{Asks, IsGateAt, IsSomeGate, IsReplayed};
 ghost use Rattle.gate_log.specs.Frame.{framed, IsLengthAt};
 ghost use Rattle.gate_log.specs.LogState.{open_log, IsReady, HasLogCause};
 ghost use Rattle.gate_log.specs.Refusals.{IsBodyRefusal};
+ghost use Rattle.mds_out.specs.Calls.{next_number};
 ghost use Rattle.mds_out.specs.Disk.{AreSame, LeavesOnly, IsUnchanged, HasDiskCause};
 ghost use Rattle.mds_out.specs.Known.{OnTold};
 
@@ -12,9 +13,6 @@ use crate::LogFault;
 use mds_out::{Disk, DiskFault};
 use std::alloc::{AllocError, Global};
 use std::marker::Model;
-
-// The bytes of a body's length, which stand before the body.
-const LEN: usize = 4;
 
 /// A body that is ready to be appended: contracts see it as the body's bytes.
 #[derive(Drop)]
@@ -34,6 +32,9 @@ impl Model for Piece {
 }
 
 impl Piece {
+    /// The bytes at the front of a piece's buffer, which are the body's length.
+    pub const FRONT: usize = 4;
+
     /// A piece with this body, which is shorter than 2^31 bytes. The body is copied: what is only written for the
     /// piece goes right into its buffer, by `begin` and `end`.
     pub fn of(alloc: Global, body: &[u8]) -> Result<Piece, AllocError>
@@ -45,17 +46,16 @@ impl Piece {
         Piece::end(buffer)
     }
 
-    /// The buffer of a piece whose body is still to be written: the four bytes of its length. What is appended to the
-    /// buffer is the body.
+    /// The buffer of a piece whose body is still to be written: `FRONT` bytes. What is appended to it is the body.
     pub fn begin(alloc: Global) -> Result<Vec<u8>, AllocError>
         ensures { IfOk result (λ buffer. length buffer.items ≡ 4) }
     {
         let mut buffer = Vec::new(alloc);
-        buffer.extend_from_slice(&[0; LEN])?;
+        buffer.extend_from_slice(&[0; Piece::FRONT])?;
         Ok(buffer)
     }
 
-    /// The piece whose body stands in a buffer that was begun, behind its first four bytes. The body is shorter than
+    /// The piece whose body stands in a buffer that was begun, behind its first `FRONT` bytes. The body is shorter than
     /// 2^31 bytes, and is not copied.
     pub fn end(mut buffer: Vec<u8>) -> Result<Piece, AllocError>
         requires begun { 4 ≤ length buffer.items }
@@ -72,7 +72,7 @@ impl Piece {
         ensures { length result.items ≡ 4 }
     {
         let Piece { mut bytes } = self;
-        bytes.truncate(LEN);
+        bytes.truncate(Piece::FRONT);
         bytes
     }
 
@@ -91,8 +91,8 @@ fn spell_length(buffer: &mut [u8])
     requires short { length buffer.old < 2 ^ 32 }
     ensures { buffer.new ≡ to_be_bytes w32 (length buffer.old - 4) ++ drop 4 buffer.old }
 {
-    let body_len = (buffer.len() - LEN) as u32;
-    buffer[..LEN].copy_from_slice(&body_len.to_be_bytes());
+    let body_len = (buffer.len() - Piece::FRONT) as u32;
+    buffer[..Piece::FRONT].copy_from_slice(&body_len.to_be_bytes());
 }
 
 /// Reads the length of the body behind a gate; `None` where, before `end`, fewer bytes are behind the gate than a body
@@ -115,12 +115,15 @@ pub(crate) fn length_at<D: Disk>(
     ensures cause { HasDiskCause (D.faults disk.old) (D.faults disk.new) result }
     ensures lasts { D.lasts disk.old disk.new }
     ensures failed { IsErrOf result DiskFault.Device → D.fails disk.old disk.new }
+    ensures asked { D.asked disk.new ≤ D.asked disk.old + 1 }
+    ensures asked_once { IfOk result (λ count. IfSome count (λ _. D.asked disk.new ≡ next_number (D.asked disk.old))) }
+    ensures changes { D.changes_asked disk.new ≡ D.changes_asked disk.old }
 {
     let behind = end - gate - 1;
     if behind < 5 {
         return Ok(None);
     }
-    let mut len = [0; LEN];
+    let mut len = [0; Piece::FRONT];
     read_at(disk, file, gate + 1, &mut len)?;
     let count = number_of(&len) as u64;
     if behind - 4 <= count {
@@ -153,6 +156,8 @@ pub(crate) fn body_at<D: Disk>(
     ensures cause { HasLogCause (D.faults disk.old) (D.faults disk.new) result }
     ensures lasts { D.lasts disk.old disk.new }
     ensures failed { IsErrOf result LogFault.Device → D.fails disk.old disk.new }
+    ensures asked { Asks 2 (D.asked disk.old) (D.asked disk.new) result }
+    ensures changes { D.changes_asked disk.new ≡ D.changes_asked disk.old }
 {
     let Some(count) = length_at(disk, file, end, at)? else {
         return Err(LogFault::BadLog { place: at });
@@ -179,6 +184,8 @@ pub(crate) fn read_at<D: Disk>(
     ensures cause { HasDiskCause (D.faults disk.old) (D.faults disk.new) result }
     ensures lasts { D.lasts disk.old disk.new }
     ensures failed { IsErrOf result DiskFault.Device → D.fails disk.old disk.new }
+    ensures asked { D.asked disk.new ≡ next_number (D.asked disk.old) }
+    ensures changes { D.changes_asked disk.new ≡ D.changes_asked disk.old }
 {
     disk.read(file, at, into)
 }

@@ -1,8 +1,9 @@
 //! Reading a log from gate to gate.
-ghost use Rattle.std.specs.Prelude.{◌≡◌, ◌^◌, ◌<◌, Some, IfOk, IsErrOf};
+ghost use Rattle.std.specs.Prelude.{◌≡◌, ◌+◌, ◌^◌, ◌<◌, ◌≤◌, Some, IfOk, IsErrOf};
 ghost use Rattle.mds_out.specs.Known.{OnTold};
 ghost use Rattle.mds_out.specs.Disk.{AreSame, LeavesOnly, IsUnchanged, HasDiskCause};
-ghost use Rattle.gate_log.specs.Found.{IsFound, EndsWithin};
+ghost use Rattle.gate_log.specs.Found.{IsFound, EndsWithin, AsksToFind};
+ghost use Rattle.gate_log.specs.declared.scan.Step.TheVariants as Step;
 ghost use Rattle.gate_log.specs.Steps.{IsStep, IsOnward};
 
 use crate::frame::{length_at, read_at};
@@ -40,6 +41,8 @@ pub(crate) fn end_of<D: Disk>(disk: &mut D, file: u32, size: u64) -> Result<Foun
     ensures cause { HasDiskCause (D.faults disk.old) (D.faults disk.new) result }
     ensures lasts { D.lasts disk.old disk.new }
     ensures failed { IsErrOf result DiskFault.Device → D.fails disk.old disk.new }
+    ensures asked { IfOk result (AsksToFind (D.asked disk.old) (D.asked disk.new)) }
+    ensures changes { D.changes_asked disk.new ≡ D.changes_asked disk.old }
 {
     if size == 0 {
         return Ok(Found::Bad { place: 0 });
@@ -72,6 +75,9 @@ pub(crate) fn step_at<D: Disk>(
     ensures cause { HasDiskCause (D.faults disk.old) (D.faults disk.new) result }
     ensures lasts { D.lasts disk.old disk.new }
     ensures failed { IsErrOf result DiskFault.Device → D.fails disk.old disk.new }
+    ensures asked { D.asked disk.new ≤ D.asked disk.old + 2 }
+    ensures asked_once { IfOk result (λ step. step ≡ Step.Closed → D.asked disk.new ≤ D.asked disk.old + 1) }
+    ensures changes { D.changes_asked disk.new ≡ D.changes_asked disk.old }
 {
     let mut gate = [0; 1];
     read_at(disk, file, place, &mut gate)?;
