@@ -5,7 +5,8 @@ use Rattle.mds_out.specs.Images.{IsTorn}
 use Rattle.mds_out.specs.Known.{OnKnown, OnTold}
 use Rattle.mds_out.proofs.Moments.{leaves_weaker, both, started, goes_on}
 use Rattle.mds_out.proofs.Acted.{untouched_torn}
-use Rattle.gate_log.specs.Log.{framed, log_bytes, log_length, HoldsLog, IsBeforeOrAfter}
+use Rattle.gate_log.specs.Frame.{framed}
+use Rattle.gate_log.specs.Log.{log_bytes, log_length, HoldsLog, IsBeforeOrAfter}
 use Rattle.gate_log.specs.LogState.{IsWrittenOver, IsKept, IsLogOf, open_log}
 use Rattle.gate_log.proofs.Frames.{torn_behind, written_behind, holds_opened, torn_gate, written_gate, longer, staged, length-framed}
 

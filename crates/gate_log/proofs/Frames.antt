@@ -7,7 +7,8 @@ use Rattle.std.proofs.lemmas.List.Elements.{All-push}
 use Rattle.std.specs.Int.{to_be_bytes, w32}
 use Rattle.mds_out.specs.Disk.{put}
 use Rattle.mds_out.specs.Images.{IsTorn}
-use Rattle.gate_log.specs.Log.{framed, log_bytes, log_length, HoldsLog, IsBeforeOrAfter}
+use Rattle.gate_log.specs.Frame.{framed}
+use Rattle.gate_log.specs.Log.{log_bytes, log_length, HoldsLog, IsBeforeOrAfter}
 
 -- a front that is the same place by place
 same_front : (old new : List ℕ) (n : ℕ) → n ≤ length old → n ≤ length new → ((place : ℕ) → place < n → get_or new place 0 ≡ get_or old place 0) → take n new ≡ take n old

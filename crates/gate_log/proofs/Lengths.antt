@@ -4,7 +4,8 @@ use Rattle.std.proofs.lemmas.List.{take_at, drop_at}
 use Rattle.std.proofs.lemmas.List.Sums.{sum_by-cons}
 use Rattle.std.specs.Int.{to_be_bytes, w32}
 use Rattle.mds_out.specs.Disk.{Image}
-use Rattle.gate_log.specs.Log.{framed, log_bytes, log_length, gate_place, body_place, HoldsLog, IsBeforeOrAfter}
+use Rattle.gate_log.specs.Frame.{framed}
+use Rattle.gate_log.specs.Log.{log_bytes, log_length, gate_place, body_place, HoldsLog, IsBeforeOrAfter}
 use Rattle.gate_log.specs.LogState.{LogState, IsKept}
 use Rattle.gate_log.proofs.Frames.{longer, length-framed}
 use Rattle.gate_log.proofs.Replays.{log_bytes-append}

@@ -1,4 +1,5 @@
 pub mod Appends
+pub mod Framed
 pub mod Frames
 pub mod Lengths
 pub mod Makes

@@ -1,10 +1,11 @@
 -- The body at a gate of a log, by the bytes that were read there.
-use Rattle.std.proofs.Common.{◌≡◌, ℕ, ◌+◌, ◌-◌, ◌<◌, ◌≤◌, ◌^◌, List, [], ◌∷◌, ◌++◌, length, take, drop, Option, None, Some, Result, Ok, Err, OnOk, is_err, false, refl, sym, ◌∙◌, ap, subst, arith, append_assoc, length-append}
+use Rattle.std.proofs.Common.{◌≡◌, ℕ, ◌+◌, ◌<◌, ◌≤◌, ◌^◌, List, [], ◌∷◌, ◌++◌, length, take, drop, Option, None, Some, Result, Ok, Err, OnOk, is_err, false, refl, sym, ◌∙◌, ap, subst, arith, append_assoc, length-append}
 use Rattle.std.proofs.lemmas.List.{take_at, drop_at, drop-drop, append-nil, get_or_at}
 use Rattle.std.proofs.lemmas.Nat.{from_be_bytes-to_be_bytes_4}
 use Rattle.std.specs.Int.{to_be_bytes, from_be_bytes, w32}
 use Rattle.mds_out.specs.Known.{OnTold}
-use Rattle.gate_log.specs.Log.{framed, log_bytes, HoldsLog}
+use Rattle.gate_log.specs.Frame.{framed, spelled_length, IsLengthAt}
+use Rattle.gate_log.specs.Log.{log_bytes, HoldsLog}
 use Rattle.gate_log.specs.LogState.{LogState, IsLogOf, IsKept}
 use Rattle.mds_out.specs.Disk.{Image}
 use Rattle.gate_log.specs.Calls.{IsGateAt, IsSomeGate, IsReplayed}
@@ -52,11 +53,14 @@ here log at before after body bytes gate = record { tail = tail; split = split; 
     short : length body < 2 ^ 32
     short = subst (λ b. length b < 2 ^ 32) (get_or_at before body after body (length before) refl) (holds.short (length before) body (omega (arith, length-append before (body ∷ after))))
 
--- the length that is read is the body's
-length_is : (log : LogState) (at n : ℕ) (body bytes len : List ℕ) → IsHere log at body bytes → len ≡ take 4 (drop (at + 1) bytes) → n ≡ from_be_bytes w32 len → n ≡ length body
-length_is log at n body bytes len is read number =
-    let spelled : len ≡ to_be_bytes w32 (length body) = read ∙ ap (take 4) (is.split ∙ append_assoc (to_be_bytes w32 (length body)) body is.tail) ∙ take_at (to_be_bytes w32 (length body)) (body ++ is.tail) 4 refl in
-    number ∙ ap (from_be_bytes w32) spelled ∙ from_be_bytes-to_be_bytes_4 (length body) is.short
+-- the length that is spelled is the body's
+spelled_is : (log : LogState) (at : ℕ) (body bytes : List ℕ) → IsHere log at body bytes → spelled_length (drop (at + 1) bytes) ≡ length body
+spelled_is log at body bytes is =
+    ap (λ l. from_be_bytes w32 (take 4 l)) (is.split ∙ append_assoc (to_be_bytes w32 (length body)) body is.tail)
+    ∙ ap (from_be_bytes w32) (take_at (to_be_bytes w32 (length body)) (body ++ is.tail) 4 refl) ∙ from_be_bytes-to_be_bytes_4 (length body) is.short
+
+count_is : (log : LogState) (at n : ℕ) (body bytes : List ℕ) → IsHere log at body bytes → n < 2 ^ 32 → to_be_bytes w32 n ≡ take 4 (drop (at + 1) bytes) → n ≡ length body
+count_is log at n body bytes is small spelled = sym (from_be_bytes-to_be_bytes_4 n small) ∙ ap (from_be_bytes w32) spelled ∙ spelled_is log at body bytes is
 
 -- and what is read then is the body
 body_is : (log : LogState) (at n : ℕ) (body bytes : List ℕ) → IsHere log at body bytes → n ≡ length body → take n (drop (at + 5) bytes) ≡ body
@@ -70,37 +74,29 @@ next_gate log at n before after body bytes gate size = record {
   place_is = omega (arith, gate.place_is, longer before body);
 }
 
-never_few : (log : LogState) (at : ℕ) (bytes : List ℕ) (before after : List (List ℕ)) → IsGateAt log at before after bytes → at + 1 < log.length → log.length - at < 6 → ⊥
-never_few log at bytes before [] gate within few = omega (arith, no_body log at before bytes gate)
-never_few log at bytes before (body ∷ after) gate within few = omega (arith, (here log at before after body bytes gate).room)
-
-never_short : (log : LogState) (at n : ℕ) (bytes len : List ℕ) (before after : List (List ℕ)) → IsGateAt log at before after bytes → at + 1 < log.length → len ≡ take 4 (drop (at + 1) bytes) → n ≡ from_be_bytes w32 len → log.length - at - 5 ≤ n → ⊥
-never_short log at n bytes len before [] gate within read number few = omega (arith, no_body log at before bytes gate)
-never_short log at n bytes len before (body ∷ after) gate within read number few =
+never_lacks : (log : LogState) (at : ℕ) (bytes : List ℕ) (before after : List (List ℕ)) → IsGateAt log at before after bytes → at + 1 < log.length → IsLengthAt at log.length None bytes → ⊥
+never_lacks log at bytes before [] gate within lacks = omega (arith, no_body log at before bytes gate)
+never_lacks log at bytes before (body ∷ after) gate within lacks =
     let is = here log at before after body bytes gate in
-    omega (arith, is.room, length_is log at n body bytes len is read number)
+    omega (arith, lacks, is.room, spelled_is log at body bytes is)
 
-replayed_bytes : (log : LogState) (at n : ℕ) (bytes len into : List ℕ) (before after : List (List ℕ)) → IsGateAt log at before after bytes → at + 1 < log.length → len ≡ take 4 (drop (at + 1) bytes) → n ≡ from_be_bytes w32 len → into ≡ take n (drop (at + 5) bytes)
+replayed_bytes : (log : LogState) (at n : ℕ) (bytes into : List ℕ) (before after : List (List ℕ)) → IsGateAt log at before after bytes → at + 1 < log.length → n < 2 ^ 32 → IsLengthAt at log.length (Some n) bytes → into ≡ take n (drop (at + 5) bytes)
     → IsReplayed log before after (Some (at + 5 + n)) into bytes
-replayed_bytes log at n bytes len into before [] gate within read number given = absurd (omega (arith, no_body log at before bytes gate))
-replayed_bytes log at n bytes len into before (body ∷ after) gate within read number given =
-    let size = length_is log at n body bytes len (here log at before after body bytes gate) read number in
+replayed_bytes log at n bytes into before [] gate within small spelled given = absurd (omega (arith, no_body log at before bytes gate))
+replayed_bytes log at n bytes into before (body ∷ after) gate within small spelled given =
+    let size = count_is log at n body bytes (here log at before after body bytes gate) small spelled in
     (given ∙ body_is log at n body bytes (here log at before after body bytes gate) size, next_gate log at n before after body bytes gate size)
 
 -- ---- where the disk may tell what it holds
 
-pub not_few : (seen : Option (List ℕ)) (log : LogState) (at : ℕ) → OnTold seen (IsSomeGate log at) → at + 1 < log.length → log.length - at < 6 → OnTold seen (λ bytes. ⊥)
-not_few None log at gate within few = tt
-not_few (Some bytes) log at gate within few = never_few log at bytes gate.before gate.after gate.at within few
+pub not_lacking : (seen : Option (List ℕ)) (log : LogState) (at : ℕ) → OnTold seen (IsSomeGate log at) → at + 1 < log.length → OnTold seen (IsLengthAt at log.length None) → OnTold seen (λ bytes. ⊥)
+not_lacking None log at gate within lacks = tt
+not_lacking (Some bytes) log at gate within lacks = never_lacks log at bytes gate.before gate.after gate.at within lacks
 
-pub not_short : (seen : Option (List ℕ)) (log : LogState) (at n : ℕ) (len : List ℕ) → OnTold seen (IsSomeGate log at) → at + 1 < log.length → OnTold seen (λ bytes. len ≡ take 4 (drop (at + 1) bytes)) → n ≡ from_be_bytes w32 len → log.length - at - 5 ≤ n → OnTold seen (λ bytes. ⊥)
-not_short None log at n len gate within read number few = tt
-not_short (Some bytes) log at n len gate within read number few = never_short log at n bytes len gate.before gate.after gate.at within read number few
-
-pub replayed : (seen : Option (List ℕ)) (log : LogState) (at n : ℕ) (len into : List ℕ) (before after : List (List ℕ)) → OnTold seen (IsGateAt log at before after) → at + 1 < log.length → OnTold seen (λ bytes. len ≡ take 4 (drop (at + 1) bytes)) → n ≡ from_be_bytes w32 len
+pub replayed : (seen : Option (List ℕ)) (log : LogState) (at n : ℕ) (into : List ℕ) (before after : List (List ℕ)) → OnTold seen (IsGateAt log at before after) → at + 1 < log.length → n < 2 ^ 32 → OnTold seen (IsLengthAt at log.length (Some n))
     → OnTold seen (λ bytes. into ≡ take n (drop (at + 5) bytes)) → OnTold seen (IsReplayed log before after (Some (at + 5 + n)) into)
-replayed None log at n len into before after gate within read number given = tt
-replayed (Some bytes) log at n len into before after gate within read number given = replayed_bytes log at n bytes len into before after gate within read number given
+replayed None log at n into before after gate within small spelled given = tt
+replayed (Some bytes) log at n into before after gate within small spelled given = replayed_bytes log at n bytes into before after gate within small spelled given
 
 ended_bytes : (log : LogState) (at : ℕ) (bytes into : List ℕ) (before after : List (List ℕ)) → IsGateAt log at before after bytes → log.length ≤ at + 1 → IsReplayed log before after None into bytes
 ended_bytes log at bytes into before [] gate past = tt
@@ -120,11 +116,11 @@ pub first_gate : (seen : Option (List ℕ)) (log : LogState) (images : Image →
 first_gate None log images kept = tt
 first_gate (Some bytes) log images kept = record { before = []; after = kept.bodies; at = record { is = kept.is; place_is = refl } }
 
-some_next : (log : LogState) (at n : ℕ) (bytes len : List ℕ) (before after : List (List ℕ)) → IsGateAt log at before after bytes → at + 1 < log.length → len ≡ take 4 (drop (at + 1) bytes) → n ≡ from_be_bytes w32 len → IsSomeGate log (at + 5 + n) bytes
-some_next log at n bytes len before [] gate within read number = absurd (omega (arith, no_body log at before bytes gate))
-some_next log at n bytes len before (body ∷ after) gate within read number =
-    record { before = before ++ body ∷ []; after = after; at = next_gate log at n before after body bytes gate (length_is log at n body bytes len (here log at before after body bytes gate) read number) }
+some_next : (log : LogState) (at n : ℕ) (bytes : List ℕ) (before after : List (List ℕ)) → IsGateAt log at before after bytes → at + 1 < log.length → n < 2 ^ 32 → IsLengthAt at log.length (Some n) bytes → IsSomeGate log (at + 5 + n) bytes
+some_next log at n bytes before [] gate within small spelled = absurd (omega (arith, no_body log at before bytes gate))
+some_next log at n bytes before (body ∷ after) gate within small spelled =
+    record { before = before ++ body ∷ []; after = after; at = next_gate log at n before after body bytes gate (count_is log at n body bytes (here log at before after body bytes gate) small spelled) }
 
-pub next_some : (seen : Option (List ℕ)) (log : LogState) (at n : ℕ) (len : List ℕ) → OnTold seen (IsSomeGate log at) → at + 1 < log.length → OnTold seen (λ bytes. len ≡ take 4 (drop (at + 1) bytes)) → n ≡ from_be_bytes w32 len → OnTold seen (IsSomeGate log (at + 5 + n))
-next_some None log at n len gate within read number = tt
-next_some (Some bytes) log at n len gate within read number = some_next log at n bytes len gate.before gate.after gate.at within read number
+pub next_some : (seen : Option (List ℕ)) (log : LogState) (at n : ℕ) → OnTold seen (IsSomeGate log at) → at + 1 < log.length → n < 2 ^ 32 → OnTold seen (IsLengthAt at log.length (Some n)) → OnTold seen (IsSomeGate log (at + 5 + n))
+next_some None log at n gate within small spelled = tt
+next_some (Some bytes) log at n gate within small spelled = some_next log at n bytes gate.before gate.after gate.at within small spelled

@@ -1,10 +1,11 @@
 -- What stands at the place of a gate, by the bytes that were read there.
-use Rattle.std.proofs.Common.{◌≡◌, ℕ, ◌+◌, ◌-◌, ◌<◌, ◌≤◌, ◌^◌, List, [], ◌∷◌, ◌++◌, length, get_or, take, drop, Option, None, Some, refl, sym, ◌∙◌, ap, subst, arith, append_assoc, length-drop, take-append-drop}
+use Rattle.std.proofs.Common.{◌≡◌, ℕ, ◌+◌, ◌-◌, ◌<◌, ◌^◌, List, [], ◌∷◌, ◌++◌, length, get_or, take, drop, Option, None, Some, refl, sym, ◌∙◌, ap, subst, arith, append_assoc, length-drop, take-append-drop}
 use Rattle.std.proofs.lemmas.List.{drop_more, get_or-take, get_or-drop, length-take-le, drop-drop, drop_at, nil_from_length}
 use Rattle.std.proofs.lemmas.List.Elements.{All-push}
 use Rattle.std.specs.Int.{to_be_bytes, from_be_bytes, w32}
 use Rattle.mds_out.specs.Known.{OnTold}
-use Rattle.gate_log.specs.Log.{framed, log_bytes, IsLacking, IsCutShort}
+use Rattle.gate_log.specs.Frame.{framed, IsLengthAt}
+use Rattle.gate_log.specs.Log.{log_bytes, IsLacking, IsCutShort}
 use Rattle.gate_log.specs.Found.{IsScanned, IsLogEnd}
 use Rattle.mds_out.specs.Disk.{Image, Contents, Lengths, IsUnchanged, AreSame}
 use Rattle.gate_log.proofs.Frames.{log_bytes-push, longer}
@@ -25,20 +26,12 @@ lacks bytes gate place within read is few = subst IsLacking (sym (open_at bytes 
 few_behind : (bytes : List ℕ) (size place : ℕ) → size ≡ length bytes → place < size → length (drop (place + 1) bytes) ≡ size - place - 1
 few_behind bytes size place is within = omega (arith, length-drop (place + 1) bytes)
 
-pub lacks_length : (seen : Option (List ℕ)) (known : Option ℕ) (size place : ℕ) (gate : List ℕ) → ((bytes : List ℕ) → seen ≡ Some bytes → known ≡ Some (length bytes)) → known ≡ Some size → place < size → size - place < 6
-    → OnTold seen (λ bytes. gate ≡ take 1 (drop place bytes)) → get_or gate 0 0 ≡ 1 → OnTold seen (λ bytes. IsLacking (drop place bytes))
-lacks_length None known size place gate law is within few read opened = tt
-lacks_length (Some bytes) known size place gate law is within few read opened =
+pub lacks_behind : (seen : Option (List ℕ)) (known : Option ℕ) (size place : ℕ) (gate : List ℕ) → ((bytes : List ℕ) → seen ≡ Some bytes → known ≡ Some (length bytes)) → known ≡ Some size → place < size
+    → OnTold seen (λ bytes. gate ≡ take 1 (drop place bytes)) → get_or gate 0 0 ≡ 1 → OnTold seen (IsLengthAt place size None) → OnTold seen (λ bytes. IsLacking (drop place bytes))
+lacks_behind None known size place gate law is within read opened none = tt
+lacks_behind (Some bytes) known size place gate law is within read opened none =
     let sizes : size ≡ length bytes = some_same size (length bytes) (sym is ∙ law bytes refl) in
-    lacks bytes gate place (omega arith) read opened (omega (arith, few_behind bytes size place sizes within))
-
-pub lacks_body : (seen : Option (List ℕ)) (known : Option ℕ) (size place n : ℕ) (gate len : List ℕ) → ((bytes : List ℕ) → seen ≡ Some bytes → known ≡ Some (length bytes)) → known ≡ Some size → place < size → size - place - 5 ≤ n
-    → OnTold seen (λ bytes. gate ≡ take 1 (drop place bytes)) → get_or gate 0 0 ≡ 1 → OnTold seen (λ bytes. len ≡ take 4 (drop (place + 1) bytes)) → n ≡ from_be_bytes w32 len → OnTold seen (λ bytes. IsLacking (drop place bytes))
-lacks_body None known size place n gate len law is within few read opened after number = tt
-lacks_body (Some bytes) known size place n gate len law is within few read opened after number =
-    let sizes : size ≡ length bytes = some_same size (length bytes) (sym is ∙ law bytes refl) in
-    let same : n ≡ from_be_bytes w32 (take 4 (drop (place + 1) bytes)) = number ∙ ap (from_be_bytes w32) after in
-    lacks bytes gate place (omega arith) read opened (omega (arith, few_behind bytes size place sizes within, same))
+    lacks bytes gate place (omega arith) read opened (omega (arith, none, few_behind bytes size place sizes within))
 
 -- a length and a body behind an open gate
 framed_at : (bytes len : List ℕ) (place n : ℕ) → len ≡ take 4 (drop (place + 1) bytes) → to_be_bytes w32 n ≡ len → place + 5 + n < length bytes → drop (place + 1) bytes ≡ framed (take n (drop (place + 5) bytes)) ++ drop (place + 5 + n) bytes
@@ -60,12 +53,12 @@ body_there bytes len place n opened after spelled small fits = record {
   short = subst (λ k. k < 2 ^ 32) (sym (length-take-le n (drop (place + 5) bytes) (omega (arith, length-drop (place + 5) bytes)))) small;
 }
 
-pub body_at : (seen : Option (List ℕ)) (known : Option ℕ) (size place n : ℕ) (gate len : List ℕ) → ((bytes : List ℕ) → seen ≡ Some bytes → known ≡ Some (length bytes)) → known ≡ Some size → place < size → n < size - place - 5 → n < 2 ^ 32
-    → OnTold seen (λ bytes. gate ≡ take 1 (drop place bytes)) → get_or gate 0 0 ≡ 1 → OnTold seen (λ bytes. len ≡ take 4 (drop (place + 1) bytes)) → to_be_bytes w32 n ≡ len → OnTold seen (λ bytes. IsBodyAt place (place + 5 + n) bytes)
-body_at None known size place n gate len law is within room small read opened after spelled = tt
-body_at (Some bytes) known size place n gate len law is within room small read opened after spelled =
+pub body_behind : (seen : Option (List ℕ)) (known : Option ℕ) (size place n : ℕ) (gate : List ℕ) → ((bytes : List ℕ) → seen ≡ Some bytes → known ≡ Some (length bytes)) → known ≡ Some size → place < size → n < 2 ^ 32 → place + 5 + n < size
+    → OnTold seen (λ bytes. gate ≡ take 1 (drop place bytes)) → get_or gate 0 0 ≡ 1 → OnTold seen (IsLengthAt place size (Some n)) → OnTold seen (IsBodyAt place (place + 5 + n))
+body_behind None known size place n gate law is within small fits read opened spelled = tt
+body_behind (Some bytes) known size place n gate law is within small fits read opened spelled =
     let sizes : size ≡ length bytes = some_same size (length bytes) (sym is ∙ law bytes refl) in
-    body_there bytes len place n (open_at bytes gate place (omega arith) read opened) after spelled small (omega arith)
+    body_there bytes (take 4 (drop (place + 1) bytes)) place n (open_at bytes gate place (omega arith) read opened) refl spelled small (omega arith)
 
 -- ---- from gate to gate
 

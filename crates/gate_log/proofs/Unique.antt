@@ -3,7 +3,8 @@ use Rattle.std.proofs.Common.{◌≡◌, ◌≢◌, ℕ, suc, ◌<◌, ◌≤◌
 use Rattle.std.proofs.lemmas.List.{take_at, drop_at}
 use Rattle.std.proofs.lemmas.Nat.{from_be_bytes-to_be_bytes_4}
 use Rattle.std.specs.Int.{to_be_bytes, from_be_bytes, w32}
-use Rattle.gate_log.specs.Log.{framed, log_bytes, HoldsLog, IsCutShort, IsLacking}
+use Rattle.gate_log.specs.Frame.{framed}
+use Rattle.gate_log.specs.Log.{log_bytes, HoldsLog, IsCutShort, IsLacking}
 use Rattle.gate_log.proofs.Frames.{length-framed}
 
 same_head : (x y : ℕ) (xs ys : List ℕ) → x ∷ xs ≡ y ∷ ys → x ≡ y
@@ -78,3 +79,30 @@ closed_or_short (x ∷ xs) (y ∷ ys) g r t short_a short_b shut lacking empty i
 
 pub no_log : (a : List (List ℕ)) (file : List ℕ) (place : ℕ) → HoldsLog a file → IsCutShort file place → ⊥
 no_log a file place holds cut = closed_or_short a cut.bodies holds.gate holds.rest cut.rest holds.short cut.short holds.closed cut.lacking cut.empty (sym holds.split ∙ cut.split)
+
+-- What lacks bytes behind the same bodies' bytes lacks them behind the same bodies.
+not_empty : (b : List (List ℕ)) (y : List ℕ) (ys : List (List ℕ)) (u : List ℕ) → b ≡ y ∷ ys → (u ≡ [] → b ≡ []) → 1 ≤ length u
+not_empty b y ys [] is empty = absurd (apart (sym is ∙ empty refl))
+  where
+    apart : y ∷ ys ≡ [] → ⊥
+    apart same = cc
+not_empty b y ys (first ∷ u) is empty = omega arith
+
+both_short : (a b : List (List ℕ)) (t u : List ℕ) → All (λ x. length x < 2 ^ 32) a → All (λ x. length x < 2 ^ 32) b → IsLacking t → IsLacking u → (t ≡ [] → a ≡ []) → (u ≡ [] → b ≡ []) → log_bytes a ++ t ≡ log_bytes b ++ u → a ≡ b
+both_short [] [] t u short_a short_b lacking_t lacking_u empty_t empty_u is = refl
+both_short [] (y ∷ ys) t u short_a short_b lacking_t lacking_u empty_t empty_u is =
+    absurd (not_lacking t y (log_bytes ys ++ u) (first_short y ys short_b) (is ∙ ap (λ l. 1 ∷ l) (append_assoc (framed y) (log_bytes ys) u)) (omega (arith, length-append (log_bytes ys) u, not_empty (y ∷ ys) y ys u refl empty_u)) lacking_t)
+both_short (x ∷ xs) [] t u short_a short_b lacking_t lacking_u empty_t empty_u is =
+    absurd (not_lacking u x (log_bytes xs ++ t) (first_short x xs short_a) (sym is ∙ ap (λ l. 1 ∷ l) (append_assoc (framed x) (log_bytes xs) t)) (omega (arith, length-append (log_bytes xs) t, not_empty (x ∷ xs) x xs t refl empty_t)) lacking_u)
+both_short (x ∷ xs) (y ∷ ys) t u short_a short_b lacking_t lacking_u empty_t empty_u is =
+    let one = peeled x y xs ys t u short_a short_b is in
+    let rest : xs ≡ ys = both_short xs ys t u (later_short x xs short_a) (later_short y ys short_b) lacking_t lacking_u (λ none. not_nil x xs (empty_t none)) (λ none. not_nil y ys (empty_u none)) one.rest in
+    ap (λ z. z ∷ xs) one.same ∙ ap (λ zs. y ∷ zs) rest
+  where
+    not_nil : (z : List ℕ) (zs : List (List ℕ)) → z ∷ zs ≡ [] → zs ≡ []
+    not_nil z zs is_nil = cc
+
+pub one_place : (file : List ℕ) (place other : ℕ) → IsCutShort file place → IsCutShort file other → place ≡ other
+one_place file place other first second =
+    let same = both_short first.bodies second.bodies first.rest second.rest first.short second.short first.lacking second.lacking first.empty second.empty (sym first.split ∙ second.split) in
+    first.place_is ∙ ap (λ bodies. length (log_bytes bodies)) same ∙ sym second.place_is

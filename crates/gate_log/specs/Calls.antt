@@ -1,9 +1,10 @@
 -- What the calls of a log answer.
-use Rattle.std.specs.Prelude.{◌≡◌, ◌≢◌, ◌≤◌, ℕ, max, List, [], ◌∷◌, ◌++◌, length, Option, None, Some, Result, Ok, Err, ⊤}
+use Rattle.std.specs.Prelude.{◌≡◌, ◌≢◌, ◌≤◌, ◌+◌, ℕ, max, List, [], ◌∷◌, ◌++◌, length, Option, None, Some, Result, Ok, Err, ⊤}
 use Rattle.gate_log.specs.declared.gate_log.LogFault.{LogFault}
 use Rattle.gate_log.specs.declared.gate_log.LogFault.TheVariants.{Device, Stopped, BadLog, OutOfMemory}
 use Rattle.gate_log.specs.Log.{gate_place, IsCutShort}
 use Rattle.gate_log.specs.LogState.{LogState, IsLogOf}
+use Rattle.mds_out.specs.Calls.{number_on}
 use Rattle.mds_out.specs.Disk.{Image}
 use Rattle.mds_out.specs.Known.{OnTold}
 
@@ -14,6 +15,17 @@ IsDiskAnswer (Err Device) = ⊤
 IsDiskAnswer (Err Stopped) = ⊥
 IsDiskAnswer (Err (BadLog place)) = ⊥
 IsDiskAnswer (Err OutOfMemory) = ⊤
+
+-- so many calls of the disk where this one succeeds, and no more where it is refused
+abbrev pub Asks : {T E : Type 0} → ℕ → ℕ → ℕ → Result T E → Type 0
+Asks calls before now (Ok _) = now ≡ number_on before calls
+Asks calls before now (Err _) = now ≤ before + calls
+
+-- two calls of the disk for a body, none at the end, and no more than two where it is refused
+abbrev pub AsksForBody : {E : Type 0} → ℕ → ℕ → Result (Option ℕ) E → Type 0
+AsksForBody before now (Ok None) = now ≡ before
+AsksForBody before now (Ok (Some next)) = now ≡ number_on before 2
+AsksForBody before now (Err _) = now ≤ before + 2
 
 -- a file that is no log is told by the place, and other refusals are the disk's
 abbrev pub IsOpenAnswer : {T : Type 0} → Option (List ℕ) → Result T LogFault → Type 0

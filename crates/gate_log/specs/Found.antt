@@ -1,5 +1,5 @@
 -- Where a log ends, or why the file is none.
-use Rattle.std.specs.Prelude.{◌≡◌, ◌<◌, ◌≤◌, ◌^◌, ℕ, List, ◌++◌, length, drop, All, ⊤}
+use Rattle.std.specs.Prelude.{◌≡◌, ◌+◌, ◌<◌, ◌≤◌, ◌^◌, ℕ, List, ◌++◌, length, drop, All, ⊤}
 use Rattle.gate_log.specs.declared.scan.Found.{Found}
 use Rattle.gate_log.specs.declared.scan.Found.TheVariants.{End, Bad}
 use Rattle.gate_log.specs.Log.{log_bytes, log_length, HoldsLog, IsCutShort}
@@ -18,6 +18,11 @@ IsFound (Bad place) bytes = IsCutShort bytes place
 abbrev pub EndsWithin : ℕ → Found → Type 0
 EndsWithin size (End length) = (1 ≤ length) × (length ≤ size)
 EndsWithin size (Bad place) = ⊤
+
+-- no more calls of the disk than the log has bytes, or than the place and two
+abbrev pub AsksToFind : ℕ → ℕ → Found → Type 0
+AsksToFind before now (End length) = now ≤ before + length
+AsksToFind before now (Bad place) = now ≤ before + place + 2
 
 -- bodies that were found before this place
 pub record IsScanned (place : ℕ) (bytes : List ℕ) : Type 0 where

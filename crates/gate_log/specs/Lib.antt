@@ -1,7 +1,7 @@
 pub mod Calls
 pub mod Found
+pub mod Frame
 pub mod Log
 pub mod LogState
-pub mod PieceBytes
 pub mod Refusals
 pub mod Steps

@@ -1,10 +1,6 @@
 -- What a log file holds: log = gate (body gate)*, body = length u32, then that many bytes. A gate is one byte; 01 is open.
 use Rattle.std.specs.Prelude.{◌≡◌, ◌≢◌, ◌⊎◌, ◌+◌, ◌<◌, ◌^◌, ℕ, List, [], ◌∷◌, ◌++◌, length, take, drop, sum_by, All, ⊤}
-use Rattle.std.specs.Int.{to_be_bytes, from_be_bytes, w32}
-
--- a body as the file has it: its length as a big-endian u32, and its bytes
-abbrev pub framed : List ℕ → List ℕ
-framed body = to_be_bytes w32 (length body) ++ body
+use Rattle.gate_log.specs.Frame.{framed, spelled_length}
 
 -- bodies, each behind an open gate
 abbrev pub log_bytes : List (List ℕ) → List ℕ
@@ -34,7 +30,7 @@ pub record HoldsLog (bodies : List (List ℕ)) (file : List ℕ) : Type 0 where
 -- nothing, or an open gate that is followed by fewer bytes than its body and the next gate need
 abbrev pub IsLacking : List ℕ → Type 0
 IsLacking [] = ⊤
-IsLacking (gate ∷ after) = (gate ≡ 1) × (length after < 4 + from_be_bytes w32 (take 4 after) + 1)
+IsLacking (gate ∷ after) = (gate ≡ 1) × (length after < 4 + spelled_length after + 1)
 
 -- The file is no log: it is empty, or the open gate at this place lacks bytes behind it.
 pub record IsCutShort (file : List ℕ) (place : ℕ) : Type 0 where
@@ -57,6 +53,10 @@ HoldsOneLog = (bodies others : List (List ℕ)) (file : List ℕ) → HoldsLog b
 -- A file that is cut short holds none.
 abbrev pub IsEitherLogOrShort : Type 0
 IsEitherLogOrShort = (bodies : List (List ℕ)) (file : List ℕ) (place : ℕ) → HoldsLog bodies file → IsCutShort file place → ⊥
+
+-- A file is cut short at one place at most.
+abbrev pub IsShortAtOnePlace : Type 0
+IsShortAtOnePlace = (file : List ℕ) (place other : ℕ) → IsCutShort file place → IsCutShort file other → place ≡ other
 
 -- A body takes its length and five bytes, and the last gate one.
 abbrev pub LengthsAddUp : Type 0

@@ -1,8 +1,9 @@
 -- What stands at the place of a gate.
-use Rattle.std.specs.Prelude.{◌≡◌, ◌≢◌, ◌+◌, ◌<◌, ◌^◌, ℕ, List, ◌∷◌, ◌++◌, length, drop, ⊤}
+use Rattle.std.specs.Prelude.{◌≡◌, ◌≢◌, ◌+◌, ◌<◌, ◌≤◌, ◌^◌, ℕ, List, ◌∷◌, ◌++◌, length, drop, ⊤}
 use Rattle.gate_log.specs.declared.scan.Step.{Step}
 use Rattle.gate_log.specs.declared.scan.Step.TheVariants.{Closed, Body, Lacking}
-use Rattle.gate_log.specs.Log.{framed, IsLacking}
+use Rattle.gate_log.specs.Frame.{framed}
+use Rattle.gate_log.specs.Log.{IsLacking}
 
 -- a closed gate
 pub record IsClosedAt (place : ℕ) (bytes : List ℕ) : Type 0 where
@@ -25,8 +26,8 @@ IsStep place Closed bytes = IsClosedAt place bytes
 IsStep place (Body next) bytes = IsBodyAt place next bytes
 IsStep place Lacking bytes = IsLacking (drop place bytes)
 
--- the next gate lies behind this one and within the file
+-- the next gate lies five bytes or more behind this one, within the file
 abbrev pub IsOnward : ℕ → ℕ → Step → Type 0
 IsOnward place size Closed = ⊤
-IsOnward place size (Body next) = (place < next) × (next < size)
+IsOnward place size (Body next) = (place + 5 ≤ next) × (next < size)
 IsOnward place size Lacking = ⊤

@@ -1,8 +1,8 @@
 //! The log.
 ghost use Rattle.std.specs.Prelude.{◌≡◌, ◌+◌, ◌^◌, ◌<◌, ◌≤◌, ◌++◌, ◌∷◌, [], List, ℕ, Ok, Err, Some, None, true, false, length, IfOk, IfErr, OnOk, OnErr, IsErrOf, IfSome, MatchOption};
-ghost use Rattle.gate_log.specs.Calls.{IsDiskAnswer, IsOpenAnswer, IsMaking, IsGateAt, IsSomeGate, IsReplayed, HasRead, ReadsOn};
-ghost use Rattle.gate_log.specs.Found.{IsFound};
-ghost use Rattle.gate_log.specs.Log.{IsBeforeOrAfter, HoldsOneLog, IsEitherLogOrShort, LengthsAddUp, OneMoreIsLonger, BodiesStand};
+ghost use Rattle.gate_log.specs.Calls.{Asks, AsksForBody, IsDiskAnswer, IsOpenAnswer, IsMaking, IsGateAt, IsSomeGate, IsReplayed, HasRead, ReadsOn};
+ghost use Rattle.gate_log.specs.Found.{IsFound, AsksToFind};
+ghost use Rattle.gate_log.specs.Log.{IsBeforeOrAfter, HoldsOneLog, IsEitherLogOrShort, IsShortAtOnePlace, LengthsAddUp, OneMoreIsLonger, BodiesStand};
 ghost use Rattle.gate_log.specs.LogState.{open_log, IsReady, HasBodies, IsElsewhereOld, HasLogCause};
 ghost use Rattle.gate_log.specs.Refusals.{log_fault_of, IsReplayRefusal, IsEndReady, IsShortEnd};
 ghost use Rattle.gate_log.specs.declared.gate_log.LogFault.TheVariants.{OutOfMemory};
@@ -10,24 +10,30 @@ ghost use Rattle.mds_out.specs.Disk.{LeavesOnly, IsUnchanged, IsElsewhereUnchang
 ghost use Rattle.mds_out.specs.Known.{OnTold};
 
 use crate::Piece;
-use crate::bodies::body_at;
+use crate::frame::body_at;
 use crate::scan::{Found, end_of};
 use crate::writes::{append_at, write_synced};
 use mds_out::{Disk, DiskFault};
 use std::alloc::AllocError;
 use std::marker::Model;
+use thiserror::Error;
 
 /// Why a call of a log was refused.
-#[derive(Clone, Copy, Debug, PartialEq, Eq)]
+#[derive(Clone, Copy, Debug, PartialEq, Eq, Error)]
 pub enum LogFault {
     /// The disk failed; its count of faults has risen. The log has stopped.
+    #[error("device fault")]
     Device,
     /// The log has stopped: after `Device`, or a disk's want of memory, until it is opened again.
+    #[error("the log has stopped")]
     Stopped,
     /// The file is no log: it is empty, or the open gate at this place is followed by fewer bytes than its body and
     /// the next gate need.
+    #[error("bad log at byte {place}")]
     BadLog { place: u64 },
-    /// There was no memory. Where the disk found none, the log has stopped.
+    /// There was no memory, and the disk's count of faults is as before: it never stands for a fault of the device.
+    /// Where the disk found none, the log has stopped.
+    #[error("out of memory")]
     OutOfMemory,
 }
 
@@ -88,6 +94,8 @@ impl GateLog {
         ensures cause { HasLogCause (D.faults disk.old) (D.faults disk.new) result }
         ensures lasts { D.lasts disk.old disk.new }
         ensures failed { IsErrOf result LogFault.Device → D.fails disk.old disk.new }
+        ensures asked { Asks 3 (D.asked disk.old) (D.asked disk.new) result }
+        ensures changes { Asks 2 (D.changes_asked disk.old) (D.changes_asked disk.new) result }
     {
         make_file(disk, file)?;
         Ok(GateLog {
@@ -111,6 +119,8 @@ impl GateLog {
         ensures cause { HasLogCause (D.faults disk.old) (D.faults disk.new) result }
         ensures lasts { D.lasts disk.old disk.new }
         ensures failed { IsErrOf result LogFault.Device → D.fails disk.old disk.new }
+        ensures asked { IfOk result (λ log. D.asked disk.new ≤ D.asked disk.old + 2 + log.length) }
+        ensures changes { D.changes_asked disk.new ≡ D.changes_asked disk.old }
     {
         match find_end(disk, file)? {
             Found::End { length } => Ok(GateLog {
@@ -122,8 +132,8 @@ impl GateLog {
         }
     }
 
-    /// Appends a body: after `Ok` every crash leaves it. It makes four calls of the disk and takes no memory of its
-    /// own. After a refusal the log has stopped.
+    /// Appends a body: after `Ok` every crash leaves it. It makes four calls of the disk, two of them writes, and takes
+    /// no memory of its own. After a refusal the log has stopped.
     pub fn append<D: Disk>(&mut self, disk: &mut D, piece: &Piece) -> Result<(), LogFault>
         requires short { self.old.length ≤ 2 ^ 62 }
         requires ready { self.old.stopped ≡ false → IsReady self.old (D.seen disk.old) (D.sizes disk.old) (D.images disk.old) }
@@ -142,6 +152,8 @@ impl GateLog {
         ensures cause { HasLogCause (D.faults disk.old) (D.faults disk.new) result }
         ensures lasts { D.lasts disk.old disk.new }
         ensures failed { IsErrOf result LogFault.Device → D.fails disk.old disk.new }
+        ensures asked { Asks 4 (D.asked disk.old) (D.asked disk.new) result }
+        ensures changes { Asks 2 (D.changes_asked disk.old) (D.changes_asked disk.new) result }
     {
         if self.stopped {
             return Err(LogFault::Stopped);
@@ -160,7 +172,7 @@ impl GateLog {
 
     /// Puts the body at a gate into `into`, in place of what was there, and answers the place of the next gate;
     /// `None` exactly at the end. The place is 0 or an earlier answer. After `Device` the log has stopped; where
-    /// there is no memory for the body nothing has changed.
+    /// there is no memory for the body nothing has changed. A body is two calls of the disk.
     pub fn replay<D: Disk>(
         &mut self,
         disk: &mut D,
@@ -188,6 +200,8 @@ impl GateLog {
         ensures cause { HasLogCause (D.faults disk.old) (D.faults disk.new) result }
         ensures lasts { D.lasts disk.old disk.new }
         ensures failed { IsErrOf result LogFault.Device → D.fails disk.old disk.new }
+        ensures asked { AsksForBody (D.asked disk.old) (D.asked disk.new) result }
+        ensures changes { D.changes_asked disk.new ≡ D.changes_asked disk.old }
     {
         if self.stopped {
             return Err(LogFault::Stopped);
@@ -206,11 +220,12 @@ impl GateLog {
     }
 }
 
-/// The law that makes a log's bodies and `BadLog` exact: a file holds one log at most, and a file that is cut short
-/// holds none.
+/// The law that makes a log's bodies and `BadLog` exact: a file holds one log at most; a file that is cut short holds
+/// none, and is so at one place alone.
 pub fn one_log_law()
     ensures one_log { HoldsOneLog }
     ensures either { IsEitherLogOrShort }
+    ensures one_place { IsShortAtOnePlace }
 {}
 
 /// The law of places: how long a log is, and where each of its bodies stands, is a matter of its bodies.
@@ -232,6 +247,8 @@ fn make_file<D: Disk>(disk: &mut D, file: u32) -> Result<(), DiskFault>
     ensures cause { HasDiskCause (D.faults disk.old) (D.faults disk.new) result }
     ensures lasts { D.lasts disk.old disk.new }
     ensures failed { IsErrOf result DiskFault.Device → D.fails disk.old disk.new }
+    ensures asked { Asks 3 (D.asked disk.old) (D.asked disk.new) result }
+    ensures changes { Asks 2 (D.changes_asked disk.old) (D.changes_asked disk.new) result }
 {
     disk.cut(file, 0)?;
     write_synced(disk, file, 0, &[0])
@@ -247,6 +264,8 @@ fn find_end<D: Disk>(disk: &mut D, file: u32) -> Result<Found, DiskFault>
     ensures cause { HasDiskCause (D.faults disk.old) (D.faults disk.new) result }
     ensures lasts { D.lasts disk.old disk.new }
     ensures failed { IsErrOf result DiskFault.Device → D.fails disk.old disk.new }
+    ensures asked { IfOk result (AsksToFind (D.asked disk.old + 2) (D.asked disk.new)) }
+    ensures changes { D.changes_asked disk.new ≡ D.changes_asked disk.old }
 {
     disk.sync(file)?;
     let size = disk.length(file)?;

@@ -6,11 +6,10 @@
 //! and is opened by a write of its own once the body is synced. docs/FORMATS has the file byte by byte.
 #![tactic(auto)]
 
-mod bodies;
+mod frame;
 mod gate_log;
-mod piece;
 mod scan;
 mod writes;
 
+pub use frame::Piece;
 pub use gate_log::{GateLog, LogFault, log_places_law, one_log_law};
-pub use piece::Piece;

@@ -1,11 +1,12 @@
 //! Reading a log from gate to gate.
-ghost use Rattle.std.specs.Prelude.{◌≡◌, ◌+◌, ◌-◌, ◌^◌, ◌<◌, ◌≤◌, Some, length, IfOk, OnOk, IsErrOf, take, drop};
-ghost use Rattle.std.specs.Int.{to_be_bytes, from_be_bytes, w32};
+ghost use Rattle.std.specs.Prelude.{◌≡◌, ◌+◌, ◌^◌, ◌<◌, ◌≤◌, Some, IfOk, IsErrOf};
 ghost use Rattle.mds_out.specs.Known.{OnTold};
 ghost use Rattle.mds_out.specs.Disk.{AreSame, LeavesOnly, IsUnchanged, HasDiskCause};
-ghost use Rattle.gate_log.specs.Found.{IsFound, EndsWithin};
+ghost use Rattle.gate_log.specs.Found.{IsFound, EndsWithin, AsksToFind};
+ghost use Rattle.gate_log.specs.declared.scan.Step.TheVariants as Step;
 ghost use Rattle.gate_log.specs.Steps.{IsStep, IsOnward};
 
+use crate::frame::{length_at, read_at};
 use mds_out::{Disk, DiskFault};
 
 /// What stands at the place of a gate.
@@ -40,6 +41,8 @@ pub(crate) fn end_of<D: Disk>(disk: &mut D, file: u32, size: u64) -> Result<Foun
     ensures cause { HasDiskCause (D.faults disk.old) (D.faults disk.new) result }
     ensures lasts { D.lasts disk.old disk.new }
     ensures failed { IsErrOf result DiskFault.Device → D.fails disk.old disk.new }
+    ensures asked { IfOk result (AsksToFind (D.asked disk.old) (D.asked disk.new)) }
+    ensures changes { D.changes_asked disk.new ≡ D.changes_asked disk.old }
 {
     if size == 0 {
         return Ok(Found::Bad { place: 0 });
@@ -72,53 +75,19 @@ pub(crate) fn step_at<D: Disk>(
     ensures cause { HasDiskCause (D.faults disk.old) (D.faults disk.new) result }
     ensures lasts { D.lasts disk.old disk.new }
     ensures failed { IsErrOf result DiskFault.Device → D.fails disk.old disk.new }
+    ensures asked { D.asked disk.new ≤ D.asked disk.old + 2 }
+    ensures asked_once { IfOk result (λ step. step ≡ Step.Closed → D.asked disk.new ≤ D.asked disk.old + 1) }
+    ensures changes { D.changes_asked disk.new ≡ D.changes_asked disk.old }
 {
     let mut gate = [0; 1];
     read_at(disk, file, place, &mut gate)?;
     if gate[0] != 1 {
         return Ok(Step::Closed);
     }
-    if size - place < 6 {
-        return Ok(Step::Lacking);
+    match length_at(disk, file, size, place)? {
+        Some(count) => Ok(Step::Body {
+            next: place + 5 + count,
+        }),
+        None => Ok(Step::Lacking),
     }
-    let mut len = [0; 4];
-    read_at(disk, file, place + 1, &mut len)?;
-    let body = number_of(&len) as u64;
-    if size - place - 5 <= body {
-        return Ok(Step::Lacking);
-    }
-    Ok(Step::Body {
-        next: place + 5 + body,
-    })
-}
-
-/// A read that says of each moment that it changed no image.
-pub(crate) fn read_at<D: Disk>(
-    disk: &mut D,
-    file: u32,
-    at: u64,
-    into: &mut [u8],
-) -> Result<(), DiskFault>
-    requires short { at + length into.old < 2 ^ 63 }
-    requires within { OnTold (D.sizes disk.old file) (λ size. at + length into.old ≤ size) }
-    ensures bytes { OnOk result (OnTold (D.seen disk.old file) (λ bytes. into.new ≡ take (length into.old) (drop at bytes))) }
-    ensures unchanged { IsUnchanged (D.seen disk.old) (D.seen disk.new) (D.sizes disk.old) (D.sizes disk.new) }
-    ensures crash { AreSame (D.images disk.old) (D.images disk.new) }
-    ensures any_moment { LeavesOnly D.moment D.images_since disk.old disk.new (D.images disk.old) }
-    ensures no_memory { IsErrOf result DiskFault.OutOfMemory → ⊥ }
-    ensures cause { HasDiskCause (D.faults disk.old) (D.faults disk.new) result }
-    ensures lasts { D.lasts disk.old disk.new }
-    ensures failed { IsErrOf result DiskFault.Device → D.fails disk.old disk.new }
-{
-    disk.read(file, at, into)
-}
-
-/// The number that four bytes spell, the most significant one first.
-pub(crate) fn number_of(bytes: &[u8]) -> u32
-    requires { length bytes.now ≡ 4 }
-    ensures number { result ≡ from_be_bytes w32 bytes.now }
-    ensures spelled { to_be_bytes w32 result ≡ bytes.now }
-    ensures small { result < 2 ^ 32 }
-{
-    u32::from_be_bytes([bytes[0], bytes[1], bytes[2], bytes[3]])
 }

@@ -2,6 +2,8 @@
 ghost use Rattle.std.specs.Prelude.{◌≡◌, ◌+◌, ◌-◌, ◌^◌, ◌<◌, ◌≤◌, ◌++◌, ◌∷◌, [], List, ℕ, max, false, length, OnOk, OnErr, IsErrOf, Some};
 ghost use Rattle.mds_out.specs.Known.{OnKnown, OnTold};
 ghost use Rattle.mds_out.specs.Disk.{Image, Tells, put, LeavesOnly, IsElsewhereUnchanged, HasDiskCause, StaysTold};
+ghost use Rattle.mds_out.specs.Calls.{next_number};
+ghost use Rattle.gate_log.specs.Calls.{Asks};
 ghost use Rattle.gate_log.specs.Log.{IsBeforeOrAfter};
 ghost use Rattle.gate_log.specs.LogState.{IsWrittenOver, IsElsewhereOld, IsReady, HasBodies, open_log};
 
@@ -27,6 +29,8 @@ pub(crate) fn write_synced<D: Disk>(
     ensures cause { HasDiskCause (D.faults disk.old) (D.faults disk.new) result }
     ensures lasts { D.lasts disk.old disk.new }
     ensures failed { IsErrOf result DiskFault.Device → D.fails disk.old disk.new }
+    ensures asked { Asks 2 (D.asked disk.old) (D.asked disk.new) result }
+    ensures changes { D.changes_asked disk.new ≡ next_number (D.changes_asked disk.old) }
 {
     disk.write_at(file, at, bytes)?;
     disk.sync(file)
@@ -52,6 +56,8 @@ pub(crate) fn append_at<D: Disk>(
     ensures cause { HasDiskCause (D.faults disk.old) (D.faults disk.new) result }
     ensures lasts { D.lasts disk.old disk.new }
     ensures failed { IsErrOf result DiskFault.Device → D.fails disk.old disk.new }
+    ensures asked { Asks 4 (D.asked disk.old) (D.asked disk.new) result }
+    ensures changes { Asks 2 (D.changes_asked disk.old) (D.changes_asked disk.new) result }
 {
     write_synced(disk, file, end, piece.bytes())?;
     write_synced(disk, file, end - 1, &[1])

@@ -1,4 +1,4 @@
-use Rattle.std.proofs.Common.{◌∙◌, List, ℕ, Option, subst}
+use Rattle.std.proofs.Common.{◌∙◌, ◌+◌, ◌≤◌, arith, List, ℕ, Option, subst}
 use Rattle.mds_out.specs.Known.{OnTold}
 use Rattle.mds_out.proofs.Moments.{both}
 use Rattle.gate_log.specs.Steps.{IsBodyAt}
@@ -12,6 +12,7 @@ pub gates-preserved : goal.gates-preserved
 gates-preserved g c =
     let before = c.gates.invariant in
     let onward = rw c.in-Body.is at c.in_ok-step_at.ensures.onward in
+    let next_is : c.gates.place + 5 ≤ c.in-Body.next = omega (arith, onward.0) in
     let step = rw c.in-Body.is at c.in_ok-step_at.ensures.step in
     let P : Option (List ℕ) → Type 0 = λ seen. OnTold seen (IsBodyAt c.gates.place c.in-Body.next) in
     record {
@@ -22,4 +23,6 @@ gates-preserved g c =
       moment = both g.D.Disk.moment g.D.Disk.images_since c.args.disk.now c.gates.disk c.step_at.new.disk (g.D.Disk.images c.args.disk.now) (g.D.Disk.images c.gates.disk) (g.D.Disk.images c.args.disk.now) before.moment c.step_at.ensures.any_moment (λ image is. is) before.same.no_other;
       lasting = g.met.D.Disk.lasts_on _ _ _ before.lasting c.step_at.ensures.lasts;
       quiet = c.in_ok-step_at.ensures.cause.kept ∙ before.quiet;
+      asked = omega (arith, before.asked, c.step_at.ensures.asked, next_is);
+      changes = c.step_at.ensures.changes ∙ before.changes;
     }

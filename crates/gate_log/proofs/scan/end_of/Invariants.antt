@@ -1,4 +1,4 @@
-use Rattle.std.proofs.Common.{◌≡◌, ◌-◌, ◌<◌}
+use Rattle.std.proofs.Common.{◌≡◌, ◌+◌, ◌-◌, ◌<◌, ◌≤◌}
 use Rattle.mds_out.specs.Known.{OnTold}
 use Rattle.mds_out.specs.Disk.{IsUnchanged, AreSame, LeavesOnly}
 use Rattle.gate_log.specs.Found.{IsScanned}
@@ -13,6 +13,8 @@ invariant-gates g l = record {
   moment : LeavesOnly g.D.Disk.moment g.D.Disk.images_since l.fn.disk l.disk (g.D.Disk.images l.fn.disk);
   lasting : g.D.Disk.lasts l.fn.disk l.disk;
   quiet : g.D.Disk.faults l.disk ≡ g.D.Disk.faults l.fn.disk;
+  asked : g.D.Disk.asked l.disk ≤ g.D.Disk.asked l.fn.disk + l.place;
+  changes : g.D.Disk.changes_asked l.disk ≡ g.D.Disk.changes_asked l.fn.disk;
 }
 
 abbrev pub decreases-gates : goal.decreases-gates
