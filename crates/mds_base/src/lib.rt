@@ -1,12 +1,11 @@
-//! What every crate of the service speaks of: names, attributes, calls, replies, entries of a history, rows in their
-//! order, sessions, and what a store or a run may refuse.
+//! Floor 1, words: what every crate of the service speaks of. Names, attributes, calls, replies, the plain rules, legal
+//! histories, rows in their order, sessions, and every limit.
 //!
-//! It stands on nothing but std. The plain rules (which reply a call may get on a map, and the map then) and
-//! legal histories are defined in `specs/PlainRules.antt` and `specs/History.antt`, beside the laws that every
-//! later theorem takes; row keys in their order and the page of a partition in `specs/RowKeys.antt`.
-//! `docs/DEFINITIONS.md` says them in plain words. The contract for the layers above: a `Name` is a list of bytes
-//! that is a name, `Name::read` answers `BadName` exactly for other bytes, each `copy` equals its source, and `Rows`
-//! is a finite map whose page is the first rows past the cursor.
+//! It stands on nothing but std; `crates/mds_base/README.md` is its page. The contract for the layers above: a `Name`
+//! is a list of bytes that is a name, `Name::read` answers `BadName` exactly for other bytes, and each `copy` equals
+//! its source. The plain rules (`specs/PlainRules.antt`) say which reply a call may get on a map of entries and what
+//! map it leaves, and `laws_of_histories` has the laws that later theorems take. `Rows` is a finite map whose page is
+//! the first rows past the cursor. `docs/DEFINITIONS.md` says the definitions in plain words.
 #![tactic(auto)]
 
 mod ask;

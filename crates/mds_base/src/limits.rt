@@ -22,6 +22,9 @@ pub const GRAB_MOST: u32 = 4096;
 /// How many rows a load may have at most.
 pub const LOAD_MOST: u32 = 4096;
 
+/// How many leased entries a client keeps at most.
+pub const LEASED_MOST: usize = 256;
+
 /// How many rows a page of a scan has at most.
 pub const PAGE_ROWS: u32 = 64;
 
@@ -43,8 +46,11 @@ pub const DIRECTORIES: u64 = 1 << 48;
 /// times this on.
 pub const SERVER_DIRECTORIES: u64 = 1 << 40;
 
-/// How many of its directory numbers a server has left at least when it serves a message.
+/// How many of its directory numbers a server has left at least when it serves a message or a batch.
 pub const SERVE_DIRECTORIES: u64 = 1 << 18;
+
+/// How many of its directory numbers a server has left at least before each message of a batch.
+pub const MESSAGE_DIRECTORIES: u64 = 1 << 12;
 
 /// How many of its directory numbers each server has left at least when a run in threads begins.
 pub const THREADS_DIRECTORIES: u64 = 1 << 39;
@@ -60,8 +66,14 @@ pub const CLIENTS_MOST: u32 = 64;
 /// The greatest threshold, in rows: a partition with more rows than the threshold is split.
 pub const THRESHOLD_MOST: u32 = 8000;
 
+/// The threshold where none is asked for, in rows.
+pub const THRESHOLD_DEFAULT: u32 = 8000;
+
 /// The longest lease, in moments.
 pub const LEASE_MOST: u64 = 1_000_000;
+
+/// The lease where none is asked for, in moments.
+pub const LEASE_DEFAULT: u64 = 1000;
 
 // A run.
 
@@ -82,3 +94,29 @@ pub const LINES: u64 = 1 << 22;
 
 /// How many bytes a line may have.
 pub const LINE_BYTES: usize = 1 << 20;
+
+/// How many moments a line `tick` may ask for.
+pub const TICK_MOST: u64 = 1 << 32;
+
+/// Of how many calls of a disk a line `fuse` may speak.
+pub const FUSE_MOST: u64 = 1 << 32;
+
+// What is done in one go.
+
+/// How many messages a server may serve with one append.
+pub const BATCH_MOST: usize = 64;
+
+/// How many rows a transfer carries at most where a split is sent in pieces.
+pub const PIECE_ROWS: usize = 64;
+
+/// After how many attempts that were used up a call in threads is unanswered.
+pub const TRIES: u32 = 64;
+
+/// How many entries, files and directories together, a tree that is added in bulk may have.
+pub const BULK_ENTRIES: usize = 4096;
+
+/// How many directories a tree that is added in bulk may have, its top among them.
+pub const BULK_DIRECTORIES: usize = 4096;
+
+/// How deep the directories of a tree that is added in bulk may be nested, its top counted as 1.
+pub const BULK_DEPTH: usize = 64;
