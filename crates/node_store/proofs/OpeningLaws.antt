@@ -24,15 +24,15 @@ use Rattle.node_store.proofs.ReadingLogs.{long_enough}
 spelled_more : (x : Record) (xs : List Record) → flat_map record_spelling (x ∷ xs) ≡ record_spelling x ++ flat_map record_spelling xs
 spelled_more x xs = flat_map-cons record_spelling x xs
 
-not_empty : (x : Record) (rest : List ℕ) → [] ≡ record_spelling x ++ rest → ⊥
-not_empty x rest none = omega (arith, ap length none, length-append (record_spelling x) rest, some_byte x)
+not_empty : (x : Record) (rest : List ℕ) → IsRecord x → [] ≡ record_spelling x ++ rest → ⊥
+not_empty x rest is none = omega (arith, ap length none, length-append (record_spelling x) rest, some_byte x is)
 
 -- ---- which records a body holds
 
 one_body : (xs ys : List Record) → AllByRecursion IsRecord xs → AllByRecursion IsRecord ys → flat_map record_spelling xs ≡ flat_map record_spelling ys → xs ≡ ys
 one_body [] [] a b same = refl
-one_body [] (y ∷ ys) a b same = absurd (not_empty y (flat_map record_spelling ys) (same ∙ spelled_more y ys))
-one_body (x ∷ xs) [] a b same = absurd (not_empty x (flat_map record_spelling xs) (sym same ∙ spelled_more x xs))
+one_body [] (y ∷ ys) a b same = absurd (not_empty y (flat_map record_spelling ys) b.0 (same ∙ spelled_more y ys))
+one_body (x ∷ xs) [] a b same = absurd (not_empty x (flat_map record_spelling xs) a.0 (sym same ∙ spelled_more x xs))
 one_body (x ∷ xs) (y ∷ ys) a b same =
     let first = one_front x y (flat_map record_spelling xs) (flat_map record_spelling ys) a.0 b.0 (sym (spelled_more x xs) ∙ same ∙ spelled_more y ys) in
     ap (λ (r : Record). r ∷ xs) first.0 ∙ ap (λ (rs : List Record). y ∷ rs) (one_body xs ys a.1 b.1 first.1)
@@ -110,7 +110,7 @@ record Begins (front : List Record) (rest : List ℕ) (its : List Record) : Type
 
 begins : (front its : List Record) (rest : List ℕ) → AllByRecursion IsRecord front → AllByRecursion IsRecord its → flat_map record_spelling its ≡ flat_map record_spelling front ++ rest → Begins front rest its
 begins [] its rest a b same = record { more = its; parts = refl; each = b; spelled = sym same }
-begins (x ∷ front) [] rest a b same = absurd (not_empty x (flat_map record_spelling front ++ rest) (same ∙ ap (λ (l : List ℕ). l ++ rest) (spelled_more x front) ∙ append_assoc (record_spelling x) (flat_map record_spelling front) rest))
+begins (x ∷ front) [] rest a b same = absurd (not_empty x (flat_map record_spelling front ++ rest) a.0 (same ∙ ap (λ (l : List ℕ). l ++ rest) (spelled_more x front) ∙ append_assoc (record_spelling x) (flat_map record_spelling front) rest))
 begins (x ∷ front) (y ∷ its) rest a b same =
     let first = one_front y x (flat_map record_spelling its) (flat_map record_spelling front ++ rest) b.0 a.0 (sym (spelled_more y its) ∙ same ∙ ap (λ (l : List ℕ). l ++ rest) (spelled_more x front) ∙ append_assoc (record_spelling x) (flat_map record_spelling front) rest) in
     let more = begins front its rest a.1 b.1 first.1 in

@@ -38,10 +38,13 @@ one_front a b x y is other same =
     (ap (λ (p : Record × List ℕ). p.0) e, ap (λ (p : Record × List ℕ). p.1) e)
 
 -- no spelling is empty
-pub some_byte : (item : Record) → 0 < length (record_spelling item)
-some_byte (Begins format servers server threshold) = omega arith
-some_byte Opened = omega arith
-some_byte (Served client seq part call said) = omega arith
+pub some_byte : (item : Record) → IsRecord item → 0 < length (record_spelling item)
+some_byte (Begins format servers server threshold) is = omega arith
+some_byte Opened is = omega arith
+some_byte (Served client seq part call said) is = omega arith
+some_byte (Begin dir part depth) is = absurd is
+some_byte (Install dir part depth bitmap sessions rows) is = absurd is
+some_byte (End dir part depth) is = absurd is
 
 -- ---- lists of records
 
@@ -167,7 +170,7 @@ reads_on old mid new body rest place count so_far rest_is takes =
     let size : length rest ≡ length body - place = ap length rest_is ∙ length-drop place body in
     let long : length (take count rest) ≡ count = length-take-le count rest takes.within in
     record {
-      onward = omega (arith, some_byte item, long, ap length takes.spelled.1);
+      onward = omega (arith, some_byte item takes.spelled.0, long, ap length takes.spelled.1);
       within = omega (arith, takes.within, so_far.within);
       front = so_far.front ++ item ∷ [];
       each = each_append so_far.front (item ∷ []) so_far.each (takes.spelled.0, tt);
