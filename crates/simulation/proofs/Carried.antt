@@ -1,5 +1,5 @@
 -- From what calls of the parts of a simulation gave to what its own calls say.
-use Rattle.std.proofs.Common.{◌≡◌, ◌∙◌, sym, ap, subst, refl, ℕ, zero, suc, ◌+◌, ◌-◌, ◌<◌, ◌≤◌, ◌^◌, true, not, is_some, List, [], ◌∷◌, ◌++◌, length, get_or, Option, Some, None, Result, Ok, Err, IfOk, OnOk, OnErr, arith}
+use Rattle.std.proofs.Common.{◌≡◌, ◌∙◌, sym, ap, subst, refl, ℕ, zero, suc, ◌+◌, ◌-◌, ◌<◌, ◌≤◌, ◌^◌, Bool, true, false, not, is_some, List, [], ◌∷◌, ◌++◌, length, get_or, Option, Some, None, Result, Ok, Err, IfOk, OnOk, OnErr, arith}
 use Rattle.std.specs.Prelude.{slice_set}
 use Rattle.std.specs.List.{slice_get}
 use Rattle.std.specs.FinSet as set
@@ -7,7 +7,7 @@ use Rattle.std.specs.Ordering.{nat_cmp}
 use Rattle.std.specs.declared.alloc.AllocError.{AllocError}
 use Rattle.std.proofs.lemmas.List.{length-append}
 use Rattle.std.proofs.lemmas.Option.{get_or_from_slice_get, slice_get_read}
-use Rattle.std.proofs.lemmas.Bool.{eq-eqb}
+use Rattle.std.proofs.lemmas.Bool.{eq-eqb, true≢false}
 use Rattle.mds_base.specs.declared.call.Call.{Call}
 use Rattle.mds_base.specs.declared.call.Call.TheVariants.{Create, Mkdir, Remove, Lookup, Setattr, Scan, Grab, Load, Link, Seal, Unseal, Kill, Unlink}
 use Rattle.mds_base.specs.declared.setup.Setup.{Setup}
@@ -23,6 +23,7 @@ use Rattle.node_store.specs.Store.{Store}
 use Rattle.world.specs.declared.event.Event.TheVariants.{Issue, Resend, Take}
 use Rattle.world.specs.Events.{index_of, is_call, is_for_client}
 use Rattle.mds_base.proofs.Grow.{get_last}
+use Rattle.mds_base.proofs.Lists.{within_of}
 use Rattle.simulation.specs.Calls.{IsRequestAt, IsSend, awaiting, noting, taken_of}
 use Rattle.simulation.specs.Ranges.{IsOpenCall, IsOpen, IsSeat, IsSent, AreRanges}
 use Rattle.simulation.specs.Shows.{SimulationV, Happens, waiting_cmp, client_at, server_for, is_request_of, is_idle, is_busy}
@@ -89,6 +90,15 @@ waiting_at clients number client (Some other) is busy read =
     let a = found_at clients number client other is read in
     let p = some_pending other.pending busy in
     record { at = a; pending = p.0; busy = ap (λ (c : ClientV). c.pending) (some_item client other (sym a.is ∙ is)) ∙ p.1 }
+
+-- a client that is looked up and passes a test that no absent one passes stands at its place
+pub seat_below : {X : Type 0} (was old : SimulationV X) → was ≡ old → (number : ℕ) (test : Option ClientV → Bool) → test None ≡ false → test (client_at old.clients number) ≡ true → number - 1 < length was.clients
+seat_below {X = X} was old same number test none passes =
+    by was.clients number (subst (λ (v : SimulationV X). test (client_at v.clients number) ≡ true) (sym same) passes)
+  where
+    by : (clients : List ClientV) (number : ℕ) → test (client_at clients number) ≡ true → number - 1 < length clients
+    by clients zero e = absurd (true≢false (sym e ∙ none))
+    by clients (suc k) e = let low : k < length clients = within_of test none clients k e in omega (arith, low)
 
 pub is_free : {X : Type 0} (was old : SimulationV X) (number : ℕ) (client : ClientV) → was ≡ old → is_idle (client_at old.clients number) ≡ true → client ≡ get_or was.clients (number - 1) client → IsFree was.clients number client
 is_free {X = X} was old number client same idle read =

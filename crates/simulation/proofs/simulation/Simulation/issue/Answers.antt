@@ -1,8 +1,8 @@
 use Rattle.std.proofs.Common.{sym, subst, refl, ◌<◌, ◌^◌}
 use Rattle.mds_out.specs.Fused.{Fused}
 use Rattle.simulation.specs.Fuses.{seen_by, images_by}
-use Rattle.simulation.specs.Shows.{SimulationV}
-use Rattle.simulation.proofs.Carried.{is_free, few_calls, made_fits, ranged_refused, ranged_issued, send_place, issue_asks, issue_done}
+use Rattle.simulation.specs.Shows.{SimulationV, is_idle}
+use Rattle.simulation.proofs.Carried.{seat_below, is_free, few_calls, made_fits, ranged_refused, ranged_issued, send_place, issue_asks, issue_done}
 use Rattle.simulation.proofs.simulation.Simulation.issue.Goals as goal
 
 pub issue-requires-clause-idle : goal.issue-requires-clause-idle
@@ -45,3 +45,6 @@ returns-clause-ok g c =
     let free = is_free _ _ c.args.client c.index_mut.result.now c.self.view_is c.requires.free c.index_mut.ensures.value in
     let few = few_calls _ _ _ _ _ _ c.self.invariant.0 _ _ free.at.place in
     issue_done (seen_by g.D.Disk.seen) (images_by g.D.Disk.images) _ _ c.self.view_is c.args.client _ free.at few c.args.call c.issue.new.self c.in_ok-request.request c.send.new.sent _ c.send.result free.idle c.requires.served c.in_ok-request.ensures.client c.in_ok-request.ensures.ok c.send.ensures
+
+pub index_mut-requires : goal.index_mut-requires
+index_mut-requires g c = seat_below _ _ c.self.view_is c.args.client is_idle refl c.requires.free

@@ -1,8 +1,8 @@
 use Rattle.std.proofs.Common.{sym, subst, refl, ◌<◌, ◌^◌}
 use Rattle.mds_out.specs.Fused.{Fused}
 use Rattle.simulation.specs.Fuses.{seen_by, images_by}
-use Rattle.simulation.specs.Shows.{SimulationV}
-use Rattle.simulation.proofs.Carried.{is_waiting, few_calls, few_attempts, has_pending, sends_again, ranged_refused, ranged_resent, send_place, resend_asks, resend_done}
+use Rattle.simulation.specs.Shows.{SimulationV, is_busy}
+use Rattle.simulation.proofs.Carried.{seat_below, is_waiting, few_calls, few_attempts, has_pending, sends_again, ranged_refused, ranged_resent, send_place, resend_asks, resend_done}
 use Rattle.simulation.proofs.simulation.Simulation.resend.Goals as goal
 
 pub resend-requires : goal.resend-requires
@@ -43,3 +43,6 @@ returns-clause-ok g c =
     let short = few_attempts _ _ _ _ _ _ c.self.invariant.0 _ _ open_call.pending open_call.at.place open_call.busy in
     let again = sends_again _ c.resend.new.self c.in_ok-request.request open_call.pending open_call.busy c.in_ok-request.ensures.ok in
     resend_done (seen_by g.D.Disk.seen) (images_by g.D.Disk.images) _ _ c.self.view_is c.args.client _ open_call.at few open_call.pending c.resend.new.self c.in_ok-request.request c.send.new.sent _ c.send.result open_call.busy short again.1 again.0 c.send.ensures
+
+pub index_mut-requires : goal.index_mut-requires
+index_mut-requires g c = seat_below _ _ c.self.view_is c.args.client is_busy refl c.requires.busy

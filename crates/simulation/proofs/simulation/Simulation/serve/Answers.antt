@@ -4,7 +4,7 @@ use Rattle.mds_out.specs.Fused.{Fused, fused_faults}
 use Rattle.simulation.specs.Fuses.{seen_by, images_by}
 use Rattle.simulation.specs.Shows.{SimulationV}
 use Rattle.simulation.proofs.Changing.{on_err, ranged_store, ranged_unsent, ranged_more, sent_served}
-use Rattle.simulation.proofs.Handing.{serving, serves_place, one_message, served_store, went_down, serve_done, serve_unsent, serve_stopped, serve_refused, serves_done, serves_stopped, others_for, rose_for}
+use Rattle.simulation.proofs.Handing.{serving, serves_place, one_message, served_store, went_down, serve_done, serve_unsent, serve_stopped, serve_refused, serves_done, serves_stopped, others_for, kept_for, rose_for}
 use Rattle.simulation.proofs.Paying.{done_stops, refused_stops, serve_quiet, serve_stop, serve_unstopped, serve_paid}
 use Rattle.simulation.proofs.simulation.Simulation.serve.Goals as goal
 
@@ -134,3 +134,8 @@ returns-in_default-fault-clause-licensed g c =
     let s = serving _ _ c.args.place c.in-Some.server c.index_mut.result.now c.self.view_is c.requires.message c.in-Some.ensures.value c.index_mut.ensures.value in
     serve_unstopped g.D.Disk.faults _ _ c.in-Some.server c.args.place c.index_mut.result.now c.serve_batch.new.self c.self.view_is s (Err alloc_error) (λ k. refl)
     (serve_quiet g.D.Disk.lasts g.D.Disk.fails g.D.Disk.faults c.index_mut.result.now c.serve_batch.new.self s.up s.to.up' c.serve_batch.ensures.lasts)
+
+pub returns-in_ok-served-in-Ok-clause-kept : goal.returns-in_ok-served-in-Ok-clause-kept
+returns-in_ok-served-in-Ok-clause-kept g c =
+    let s = serving _ _ c.args.place c.in-Some.server c.index_mut.result.now c.self.view_is c.requires.message c.in-Some.ensures.value c.index_mut.ensures.value in
+    λ other meant _. kept_for _ _ c.in-Some.server c.args.place c.index_mut.result.now c.self.view_is s (fused_faults g.D.Disk.faults) c.serve_batch.new.self c.in-Ok.ensures.cause.kept other meant
