@@ -1,5 +1,5 @@
 -- Numbers that are read one after another.
-use Rattle.std.proofs.Common.{◌≡◌, ◌∙◌, sym, ap, ℕ, ◌+◌, ◌-◌, ◌<◌, zero, suc, List, [], ◌∷◌, ◌++◌, Bool, true, false, cond, arith, Option, Some, None, Result, Ok, Err, append_assoc, refl, subst}
+use Rattle.std.proofs.Common.{◌≡◌, ◌∙◌, sym, ap, ℕ, ◌-◌, ◌<◌, zero, suc, List, [], ◌∷◌, ◌++◌, true, false, cond, arith, Option, Some, None, Result, Ok, Err, append_assoc, refl, subst}
 use Rattle.std.specs.Result.{IsErrAnd}
 use Rattle.std.proofs.lemmas.List.{append-nil}
 use Rattle.script.specs.declared.fault.LineFault.{LineFault}

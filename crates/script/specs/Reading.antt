@@ -1,5 +1,5 @@
 -- Reading from left to right: what the first bytes of bytes say and the bytes behind them, where they say it.
-use Rattle.std.specs.Prelude.{ℕ, zero, suc, length, is_some, not, ◌+◌, ◌*◌, ◌-◌, ◌^◌, List, [], ◌∷◌, Option, Some, None, Bool, true, false, nat_le, nat_lt, nat_eq, ◌==◌, ◌&&◌, if◌then◌else◌, codes, decimal}
+use Rattle.std.specs.Prelude.{ℕ, zero, suc, length, is_some, not, ◌+◌, ◌*◌, ◌-◌, ◌^◌, List, [], ◌∷◌, Option, Some, None, Bool, nat_le, nat_lt, nat_eq, ◌==◌, ◌&&◌, if◌then◌else◌, codes, decimal}
 use Rattle.std.specs.List.{find}
 use Rattle.std.specs.Cmp.Lexicographic.{pointwise}
 use Rattle.std.specs.Char.{digit_value}

@@ -1,7 +1,7 @@
 use Rattle.std.proofs.Common.{◌∙◌, sym, ap, List, ℕ, ◌-◌, Bor, arith}
 use Rattle.mds_base.specs.declared.place.PlaceList.{PlaceList}
 use Rattle.script.specs.Reading.{number_at, numbers_at}
-use Rattle.script.proofs.Batches.{behind_numbers, none_before, number_more, number_none, numbers_end, numbers_full, gives_none}
+use Rattle.script.proofs.Batches.{behind_numbers, number_more, number_none, numbers_end, numbers_full, gives_none}
 use Rattle.script.proofs.reading.places.Goals as goal
 use Rattle.script.proofs.reading.places.Goals.{then-loop-most-test+else-not-is_end, else-loop-most-test}
 
