@@ -1,5 +1,5 @@
--- Lines as words: what reading finds is what the words say, and what they say is found.
-use Rattle.std.proofs.Common.{◌≡◌, ◌∙◌, sym, ap, subst, refl, ℕ, ◌<◌, ◌≤◌, ◌-◌, ◌^◌, List, [], ◌∷◌, Bool, true, false, cond, arith, Option, Some, None, decimal, nat_le, nat_lt, nat_eq, IsTrue}
+-- Lines: what reading finds is what the bytes say, and what they say is found.
+use Rattle.std.proofs.Common.{◌≡◌, ◌∙◌, sym, ap, subst, refl, ℕ, ◌<◌, ◌≤◌, ◌-◌, ◌^◌, zero, suc, List, [], ◌∷◌, length, Bool, true, false, not, cond, arith, Option, Some, None, MatchOption, is_some, codes, decimal, nat_le, nat_lt, nat_eq, IsTrue}
 use Rattle.std.specs.Prelude.{◌&&◌}
 use Rattle.std.specs.List.{find}
 use Rattle.std.specs.Cmp.Lexicographic.{pointwise}
@@ -17,38 +17,50 @@ use Rattle.script.specs.declared.verb.Verb.{Verb}
 use Rattle.script.specs.declared.verb.Verb.TheVariants as verbs
 use Rattle.script.specs.declared.verb.CallVerb.{CallVerb}
 use Rattle.script.specs.declared.verb.CallVerb.TheVariants as asked
-use Rattle.script.specs.Grammar.{Part, Keyword, Number, Named, AreSpelled, stamp_parts, call_parts, line_parts, IsStamp, IsAsked, IsClient, IsServer, IsWithin}
+use Rattle.script.specs.Words.{word_at, rest_at}
+use Rattle.script.specs.Grammar.{Part, Keyword, Number, Named, Raw, Rest, IsSpelled, AreSaid, stamp_parts, call_parts, number_parts, line_parts, IsDirectory, IsStamp, IsAsked, IsClient, IsServer, IsWithin}
 use Rattle.script.specs.Names.{SpellsName}
-use Rattle.script.specs.Reading.{◌>>=◌, number_of, unescaped, checked_name, name_of, verb_text, call_verb_text, each_verb, each_call_verb, verb_of, call_verb_of, word_at, number_at, number_within, server_at, name_at, stamp_at, call_after, call_at, asked_at, call_line, issue_line, retry_line, deliver_line, take_line, tick_line, fuse_line, stop_line, restart_line, line_after, is_end, line_of}
+use Rattle.script.specs.Reading.{◌>>=◌, number_of, unescaped, checked_name, name_of, verb_text, call_verb_text, each_verb, each_call_verb, verb_of, call_verb_of, is_end, number_at, number_within, server_at, client_at, directory_at, name_at, place_at, stamp_here, stamp_at, setattr_after, call_after, call_at, asked_at, numbers_at, call_line, issue_line, retry_line, deliver_line, batch_line, take_line, remind_line, tick_line, fuse_line, stop_line, restart_line, walk_line, bulk_line, rmdir_line, feed_line, promote_line, line_after, line_from, line_of}
 use Rattle.script.proofs.Numerals.{number_is, number_found}
 use Rattle.script.proofs.Unescaping.{name_is, name_found}
 
--- ---- what the words say is found
+-- ---- what the bytes say is found
 
--- reading found this, and what follows it are words for more parts
-record Takes {X : Type 0} (found : Option (X × List (List ℕ))) (value : X) (more : List Part) : Type 0 where
-  rest : List (List ℕ)
+-- reading found this, and what is behind it says more parts
+record Takes {X : Type 0} (found : Option (X × List ℕ)) (value : X) (more : List Part) : Type 0 where
+  rest : List ℕ
   is : found ≡ Some (value, rest)
-  later : AreSpelled rest more
+  later : AreSaid rest more
 
-word_again : (words : List (List ℕ)) (text : List ℕ) (more : List Part) → AreSpelled words (Keyword text ∷ more) → Takes (word_at words) text more
-unfolding word_at
-word_again [] text more s = absurd s
-word_again (word ∷ words) text more s = record { rest = words; is = ap (λ w. Some (w, words)) s.0; later = s.1 }
+-- the piece that says a part
+record Piece (found : Option (List ℕ × List ℕ)) (part : Part) (more : List Part) : Type 0 where
+  piece : List ℕ × List ℕ
+  is : found ≡ Some piece
+  spelled : IsSpelled piece.0 part
+  later : AreSaid piece.1 more
 
-number_again : (words : List (List ℕ)) (number : ℕ) (more : List Part) → AreSpelled words (Number number ∷ more) → Takes (number_at words) number more
-unfolding number_at word_at
-number_again [] number more s = absurd s
-number_again (word ∷ words) number more s = record {
-  rest = words;
-  is = ap (λ o. o >>= (λ n. Some (n, words))) (number_is word number s.0.0 s.0.1);
-  later = s.1;
-}
+piece_of : (found : Option (List ℕ × List ℕ)) (part : Part) (more : List Part) → MatchOption found ⊥ (λ piece. IsSpelled piece.0 part × AreSaid piece.1 more) → Piece found part more
+piece_of None part more s = absurd s
+piece_of (Some piece) part more s = record { piece = piece; is = refl; spelled = s.0; later = s.1 }
 
-within_again : (least most : ℕ) (words : List (List ℕ)) (number : ℕ) (more : List Part) → AreSpelled words (Number number ∷ more) → least ≤ number → number ≤ most → Takes (number_within least most words) number more
+text_again : (found : Option (List ℕ × List ℕ)) (text : List ℕ) (more : List Part) → MatchOption found ⊥ (λ piece. (piece.0 ≡ text) × AreSaid piece.1 more) → Takes found text more
+text_again None text more s = absurd s
+text_again (Some piece) text more s = record { rest = piece.1; is = ap (λ t. Some (t, piece.1)) s.0; later = s.1 }
+
+number_again : (bytes : List ℕ) (number : ℕ) (more : List Part) → AreSaid bytes (Number number ∷ more) → Takes (number_at bytes) number more
+unfolding number_at
+number_again bytes number more s =
+    let p = piece_of (word_at bytes) (Number number) more s in
+    record {
+      rest = p.piece.1;
+      is = ap (λ o. o >>= (λ w. number_of w.0 >>= (λ n. Some (n, w.1)))) p.is ∙ ap (λ o. o >>= (λ n. Some (n, p.piece.1))) (number_is p.piece.0 number p.spelled.0 p.spelled.1);
+      later = p.later;
+    }
+
+within_again : (least most : ℕ) (bytes : List ℕ) (number : ℕ) (more : List Part) → AreSaid bytes (Number number ∷ more) → least ≤ number → number ≤ most → Takes (number_within least most bytes) number more
 unfolding number_within
-within_again least most words number more s low high =
-    let n = number_again words number more s in
+within_again least most bytes number more s low high =
+    let n = number_again bytes number more s in
     record {
       rest = n.rest;
       is = ap (λ o. o >>= (λ n. cond (nat_le least n.0 && nat_le n.0 most) (Some n) None)) n.is
@@ -56,10 +68,10 @@ within_again least most words number more s low high =
       later = n.later;
     }
 
-server_again : (setup : Setup) (words : List (List ℕ)) (server : ℕ) (more : List Part) → AreSpelled words (Number server ∷ more) → IsServer setup server → Takes (server_at setup words) server more
+server_again : (setup : Setup) (bytes : List ℕ) (server : ℕ) (more : List Part) → AreSaid bytes (Number server ∷ more) → IsServer setup server → Takes (server_at setup bytes) server more
 unfolding server_at
-server_again setup words server more s below =
-    let n = number_again words server more s in
+server_again setup bytes server more s below =
+    let n = number_again bytes server more s in
     record {
       rest = n.rest;
       is = ap (λ o. o >>= (λ n. cond (nat_lt n.0 setup.servers) (Some n) None)) n.is
@@ -67,15 +79,33 @@ server_again setup words server more s below =
       later = n.later;
     }
 
-name_again : (words : List (List ℕ)) (name : List ℕ) (more : List Part) → AreSpelled words (Named name ∷ more) → Takes (name_at words) name more
-unfolding name_at word_at name_of
-name_again [] name more s = absurd s
-name_again (word ∷ words) name more s = record {
-  rest = words;
-  is = ap (λ o. o >>= checked_name >>= (λ n. Some (n, words))) (name_is word name s.0.0)
-      ∙ ap (λ t. cond t (Some name) None >>= (λ n. Some (n, words))) s.0.1;
-  later = s.1;
-}
+name_again : (bytes : List ℕ) (name : List ℕ) (more : List Part) → AreSaid bytes (Named name ∷ more) → Takes (name_at bytes) name more
+unfolding name_at name_of
+name_again bytes name more s =
+    let p = piece_of (word_at bytes) (Named name) more s in
+    record {
+      rest = p.piece.1;
+      is = ap (λ o. o >>= (λ w. name_of w.0 >>= (λ n. Some (n, w.1)))) p.is
+          ∙ ap (λ o. o >>= checked_name >>= (λ n. Some (n, p.piece.1))) (name_is p.piece.0 name p.spelled.0)
+          ∙ ap (λ t. cond t (Some name) None >>= (λ n. Some (n, p.piece.1))) p.spelled.1;
+      later = p.later;
+    }
+
+-- a directory, and a name in it
+record Places (bytes : List ℕ) (dir : ℕ) (name : List ℕ) (more : List Part) : Type 0 where
+  rest : List ℕ
+  is : place_at bytes ≡ Some (dir, name, rest)
+  later : AreSaid rest more
+
+directory_again : (bytes : List ℕ) (dir : ℕ) (more : List Part) → AreSaid bytes (Number dir ∷ more) → IsDirectory dir → Takes (directory_at bytes) dir more
+directory_again bytes dir more s within = within_again 1 (2 ^ 48 - 1) bytes dir more s within.0 (omega (arith, within.1))
+
+place_again : (bytes : List ℕ) (dir : ℕ) (name : List ℕ) (more : List Part) → AreSaid bytes (Number dir ∷ Named name ∷ more) → IsDirectory dir → Places bytes dir name more
+unfolding place_at
+place_again bytes dir name more s within =
+    let d = directory_again bytes dir (Named name ∷ more) s within in
+    let n = name_again d.rest name more d.later in
+    record { rest = n.rest; is = rw (d.is, n.is) refl; later = n.later }
 
 verb_is : (verb : Verb) → verb_of (verb_text verb) ≡ Some verb
 unfolding verb_of
@@ -83,12 +113,19 @@ verb_is verbs.Call = refl
 verb_is verbs.Issue = refl
 verb_is verbs.Retry = refl
 verb_is verbs.Deliver = refl
+verb_is verbs.Batch = refl
 verb_is verbs.Take = refl
 verb_is verbs.Settle = refl
+verb_is verbs.Remind = refl
 verb_is verbs.Tick = refl
 verb_is verbs.Fuse = refl
 verb_is verbs.Stop = refl
 verb_is verbs.Restart = refl
+verb_is verbs.Walk = refl
+verb_is verbs.Bulk = refl
+verb_is verbs.Rmdir = refl
+verb_is verbs.Feed = refl
+verb_is verbs.Promote = refl
 
 call_verb_is : (verb : CallVerb) → call_verb_of (call_verb_text verb) ≡ Some verb
 unfolding call_verb_of
@@ -97,94 +134,152 @@ call_verb_is asked.Mkdir = refl
 call_verb_is asked.Remove = refl
 call_verb_is asked.Lookup = refl
 call_verb_is asked.Setattr = refl
+call_verb_is asked.Scan = refl
 
-stamp_again : (words : List (List ℕ)) (stamp : Option Stamp) → AreSpelled words (stamp_parts stamp) → IsStamp stamp → Takes (stamp_at words) stamp []
-unfolding stamp_at
-stamp_again [] None s within = record { rest = []; is = refl; later = s }
-stamp_again (word ∷ words) None s within = absurd s
-stamp_again [] (Some stamp) s within = absurd s
-stamp_again (word ∷ words) (Some stamp) s within =
-    let o = within_again 0 (2 ^ 32 - 1) (word ∷ words) stamp.owner (Number stamp.mtime ∷ []) s (omega arith) (omega (arith, within)) in
+-- no word is left
+ended : (bytes : List ℕ) → AreSaid bytes [] → is_end bytes ≡ true
+unfolding is_end
+ended bytes s = ap (λ o. not (is_some o)) s
+
+-- a word is left, which says a part
+going_on : (bytes : List ℕ) (number : ℕ) (more : List Part) → AreSaid bytes (Number number ∷ more) → is_end bytes ≡ false
+unfolding is_end
+going_on bytes number more s = ap (λ o. not (is_some o)) (piece_of (word_at bytes) (Number number) more s).is
+
+stamp_again : (bytes : List ℕ) (stamp : Option Stamp) → AreSaid bytes (stamp_parts stamp) → IsStamp stamp → Takes (stamp_at bytes) stamp []
+unfolding stamp_at stamp_here
+stamp_again bytes None s within = record { rest = bytes; is = rw (ended bytes s) refl; later = s }
+stamp_again bytes (Some stamp) s within =
+    let o = within_again 0 (2 ^ 32 - 1) bytes stamp.owner (Number stamp.mtime ∷ []) s (omega arith) (omega (arith, within)) in
     let m = number_again o.rest stamp.mtime [] o.later in
-    record { rest = m.rest; is = rw (o.is, m.is) refl; later = m.later }
+    record { rest = m.rest; is = rw (going_on bytes stamp.owner (Number stamp.mtime ∷ []) s, o.is, m.is) refl; later = m.later }
 
--- a call of this verb, up to its name
-placed_again : (verb : CallVerb) (words : List (List ℕ)) (dir : ℕ) (name : List ℕ) (more : List Part) → AreSpelled words (Keyword (call_verb_text verb) ∷ Number dir ∷ Named name ∷ more) → 1 ≤ dir → dir < 2 ^ 48 → (rest : List (List ℕ)) × (call_at words ≡ call_after verb dir name rest) × AreSpelled rest more
+-- a call of this verb
+record Verbs (bytes : List ℕ) (verb : CallVerb) (more : List Part) : Type 0 where
+  rest : List ℕ
+  is : call_at bytes ≡ call_after verb rest
+  later : AreSaid rest more
+
+verb_again : (bytes : List ℕ) (verb : CallVerb) (more : List Part) → AreSaid bytes (Keyword (call_verb_text verb) ∷ more) → Verbs bytes verb more
 unfolding call_at
-placed_again verb words dir name more s low high =
-    let w = word_again words (call_verb_text verb) (Number dir ∷ Named name ∷ more) s in
-    let d = within_again 1 (2 ^ 48 - 1) w.rest dir (Named name ∷ more) w.later low (omega (arith, high)) in
-    let n = name_again d.rest name more d.later in
-    (n.rest, rw (w.is, call_verb_is verb, d.is, n.is) refl, n.later)
+verb_again bytes verb more s =
+    let w = text_again (word_at bytes) (call_verb_text verb) more s in
+    record {
+      rest = w.rest;
+      is = ap (λ o. o >>= (λ w. call_verb_of w.0 >>= (λ verb. call_after verb w.1))) w.is ∙ ap (λ o. o >>= (λ verb. call_after verb w.rest)) (call_verb_is verb);
+      later = w.later;
+    }
 
-call_again : (words : List (List ℕ)) (call : Call) → AreSpelled words (call_parts call) → IsAsked call → Takes (call_at words) call []
-unfolding call_after
-call_again words (calls.Create dir name) s within =
-    let p = placed_again asked.Create words dir name [] s within.0 within.1 in record { rest = p.0; is = p.1; later = p.2 }
-call_again words (calls.Mkdir dir name) s within =
-    let p = placed_again asked.Mkdir words dir name [] s within.0 within.1 in record { rest = p.0; is = p.1; later = p.2 }
-call_again words (calls.Remove dir name) s within =
-    let p = placed_again asked.Remove words dir name [] s within.0 within.1 in record { rest = p.0; is = p.1; later = p.2 }
-call_again words (calls.Lookup dir name) s within =
-    let p = placed_again asked.Lookup words dir name [] s within.0 within.1 in record { rest = p.0; is = p.1; later = p.2 }
-call_again words (calls.Setattr dir name mode size stamp) s within =
-    let p = placed_again asked.Setattr words dir name (Number mode ∷ Number size ∷ stamp_parts stamp) s within.0.0 within.0.1 in
-    let m = within_again 0 4095 p.0 mode (Number size ∷ stamp_parts stamp) p.2 (omega arith) within.1 in
+setattr_again : (bytes : List ℕ) (dir : ℕ) (name : List ℕ) (mode size : ℕ) (stamp : Option Stamp) → AreSaid bytes (Number mode ∷ Number size ∷ stamp_parts stamp) → mode ≤ 4095 → IsStamp stamp → Takes (setattr_after dir name bytes) (calls.Setattr dir name mode size stamp) []
+unfolding setattr_after
+setattr_again bytes dir name mode size stamp s small within =
+    let m = within_again 0 4095 bytes mode (Number size ∷ stamp_parts stamp) s (omega arith) small in
     let n = number_again m.rest size (stamp_parts stamp) m.later in
-    let t = stamp_again n.rest stamp n.later within.2 in
-    record { rest = t.rest; is = p.1 ∙ rw (m.is, n.is, t.is) refl; later = t.later }
-call_again words (calls.Scan dir) s within = absurd within
-call_again words (calls.Grab dir name count) s within = absurd within
-call_again words (calls.Load dir rows) s within = absurd within
-call_again words (calls.Link dir name id) s within = absurd within
-call_again words (calls.Seal dir part epoch) s within = absurd within
-call_again words (calls.Unseal dir part epoch) s within = absurd within
-call_again words (calls.Kill dir epoch) s within = absurd within
-call_again words (calls.Unlink dir name id) s within = absurd within
+    let t = stamp_again n.rest stamp n.later within in
+    record { rest = t.rest; is = rw (m.is, n.is, t.is) refl; later = t.later }
 
-client_again : (setup : Setup) (words : List (List ℕ)) (client : ℕ) (more : List Part) → AreSpelled words (Number client ∷ more) → IsClient setup client → Takes (number_within 1 setup.clients words) client more
-client_again setup words client more s within = within_again 1 setup.clients words client more s within.0 within.1
+call_again : (bytes : List ℕ) (call : Call) → AreSaid bytes (call_parts call) → IsAsked call → Takes (call_at bytes) call []
+unfolding call_after
+call_again bytes (calls.Create dir name) s within =
+    let w = verb_again bytes asked.Create (Number dir ∷ Named name ∷ []) s in
+    let p = place_again w.rest dir name [] w.later within in
+    record { rest = p.rest; is = w.is ∙ rw p.is refl; later = p.later }
+call_again bytes (calls.Mkdir dir name) s within =
+    let w = verb_again bytes asked.Mkdir (Number dir ∷ Named name ∷ []) s in
+    let p = place_again w.rest dir name [] w.later within in
+    record { rest = p.rest; is = w.is ∙ rw p.is refl; later = p.later }
+call_again bytes (calls.Remove dir name) s within =
+    let w = verb_again bytes asked.Remove (Number dir ∷ Named name ∷ []) s in
+    let p = place_again w.rest dir name [] w.later within in
+    record { rest = p.rest; is = w.is ∙ rw p.is refl; later = p.later }
+call_again bytes (calls.Lookup dir name) s within =
+    let w = verb_again bytes asked.Lookup (Number dir ∷ Named name ∷ []) s in
+    let p = place_again w.rest dir name [] w.later within in
+    record { rest = p.rest; is = w.is ∙ rw p.is refl; later = p.later }
+call_again bytes (calls.Setattr dir name mode size stamp) s within =
+    let w = verb_again bytes asked.Setattr (Number dir ∷ Named name ∷ Number mode ∷ Number size ∷ stamp_parts stamp) s in
+    let p = place_again w.rest dir name (Number mode ∷ Number size ∷ stamp_parts stamp) w.later within.0 in
+    let a = setattr_again p.rest dir name mode size stamp p.later within.1 within.2 in
+    record { rest = a.rest; is = w.is ∙ rw p.is a.is; later = a.later }
+call_again bytes (calls.Scan dir) s within =
+    let w = verb_again bytes asked.Scan (Number dir ∷ []) s in
+    let d = directory_again w.rest dir [] w.later within in
+    record { rest = d.rest; is = w.is ∙ rw d.is refl; later = d.later }
+call_again bytes (calls.Grab dir name count) s within = absurd within
+call_again bytes (calls.Load dir rows) s within = absurd within
+call_again bytes (calls.Link dir name id) s within = absurd within
+call_again bytes (calls.Seal dir part epoch) s within = absurd within
+call_again bytes (calls.Unseal dir part epoch) s within = absurd within
+call_again bytes (calls.Kill dir epoch) s within = absurd within
+call_again bytes (calls.Unlink dir name id) s within = absurd within
 
-record Asks (setup : Setup) (words : List (List ℕ)) (client : ℕ) (call : Call) : Type 0 where
-  rest : List (List ℕ)
-  is : asked_at setup words ≡ Some (client, call, rest)
-  later : AreSpelled rest []
+client_again : (setup : Setup) (bytes : List ℕ) (client : ℕ) (more : List Part) → AreSaid bytes (Number client ∷ more) → IsClient setup client → Takes (client_at setup bytes) client more
+client_again setup bytes client more s within = within_again 1 setup.clients bytes client more s within.0 within.1
 
-asked_again : (setup : Setup) (words : List (List ℕ)) (client : ℕ) (call : Call) → AreSpelled words (Number client ∷ call_parts call) → IsClient setup client → IsAsked call → Asks setup words client call
+record Asks (setup : Setup) (bytes : List ℕ) (client : ℕ) (call : Call) : Type 0 where
+  rest : List ℕ
+  is : asked_at setup bytes ≡ Some (client, call, rest)
+  later : AreSaid rest []
+
+asked_again : (setup : Setup) (bytes : List ℕ) (client : ℕ) (call : Call) → AreSaid bytes (Number client ∷ call_parts call) → IsClient setup client → IsAsked call → Asks setup bytes client call
 unfolding asked_at
-asked_again setup words client call s is_client is_asked =
-    let c = client_again setup words client (call_parts call) s is_client in
+asked_again setup bytes client call s is_client is_asked =
+    let c = client_again setup bytes client (call_parts call) s is_client in
     let d = call_again c.rest call c.later is_asked in
     record { rest = d.rest; is = rw (c.is, d.is) refl; later = d.later }
 
-ended : (words : List (List ℕ)) → AreSpelled words [] → is_end words ≡ true
-ended [] s = refl
-ended (word ∷ words) s = absurd s
+-- as many numbers as are said, if they are not too many
+numbers_again : (most : ℕ) (bytes : List ℕ) (numbers : List ℕ) → AreSaid bytes (number_parts numbers) → length numbers ≤ most → Takes (numbers_at most bytes) numbers []
+unfolding numbers_at
+numbers_again zero bytes [] s few = record { rest = bytes; is = refl; later = s }
+numbers_again zero bytes (number ∷ numbers) s few = absurd (omega (arith, few))
+numbers_again (suc most) bytes [] s few = record { rest = bytes; is = rw (ended bytes s) refl; later = s }
+numbers_again (suc most) bytes (number ∷ numbers) s few =
+    let n = number_again bytes number (number_parts numbers) s in
+    let m = numbers_again most n.rest numbers n.later (omega (arith, few)) in
+    record { rest = m.rest; is = rw (going_on bytes number (number_parts numbers) s, n.is, m.is) refl; later = m.later }
 
 -- a line behind its first word
-tail_again : (setup : Setup) (words : List (List ℕ)) (verb : Verb) (line : Line) (parts : List Part) → AreSpelled words (Keyword (verb_text verb) ∷ parts) → ((rest : List (List ℕ)) → AreSpelled rest parts → Takes (line_after verb setup rest) line []) → line_of setup words ≡ Some line
-unfolding line_of
-tail_again setup [] verb line parts s later = absurd s
-tail_again setup (word ∷ words) verb line parts s later =
-    let l = later words s.1 in
-    rw (s.0, verb_is verb, l.is, ended l.rest l.later) refl
+tail_again : (setup : Setup) (bytes : List ℕ) (verb : Verb) (line : Line) (parts : List Part) → AreSaid bytes (Keyword (verb_text verb) ∷ parts) → ((rest : List ℕ) → AreSaid rest parts → Takes (line_after verb setup rest) line []) → line_of setup bytes ≡ Some line
+unfolding line_of line_from
+tail_again setup bytes verb line parts s later =
+    let w = text_again (word_at bytes) (verb_text verb) parts s in
+    let l = later w.rest w.later in
+    ap (line_from setup) w.is ∙ rw (verb_is verb, l.is, ended l.rest l.later) refl
 
-pub line_is : (setup : Setup) (words : List (List ℕ)) (line : Line) → AreSpelled words (line_parts line) → IsWithin setup line → line_of setup words ≡ Some line
-unfolding line_of line_after call_line issue_line retry_line deliver_line take_line tick_line fuse_line stop_line restart_line
-line_is setup [] lines.Skipped s within = refl
-line_is setup (word ∷ words) lines.Skipped s within = absurd s
-line_is setup words (lines.Call client call) s within = tail_again setup words verbs.Call (lines.Call client call) (Number client ∷ call_parts call) s (λ rest t. let a = asked_again setup rest client call t within.0 within.1 in record { rest = a.rest; is = rw a.is refl; later = a.later })
-line_is setup words (lines.Issue client call) s within = tail_again setup words verbs.Issue (lines.Issue client call) (Number client ∷ call_parts call) s (λ rest t. let a = asked_again setup rest client call t within.0 within.1 in record { rest = a.rest; is = rw a.is refl; later = a.later })
-line_is setup words (lines.Retry client) s within = tail_again setup words verbs.Retry (lines.Retry client) (Number client ∷ []) s (λ rest t. let c = client_again setup rest client [] t within in record { rest = c.rest; is = rw c.is refl; later = c.later })
-line_is setup words (lines.Deliver place) s within = tail_again setup words verbs.Deliver (lines.Deliver place) (Number place ∷ []) s (λ rest t. let n = number_again rest place [] t in record { rest = n.rest; is = rw n.is refl; later = n.later })
-line_is setup words (lines.Take client place) s within = tail_again setup words verbs.Take (lines.Take client place) (Number client ∷ Number place ∷ []) s (λ rest t. let c = client_again setup rest client (Number place ∷ []) t within in let n = number_again c.rest place [] c.later in record { rest = n.rest; is = rw (c.is, n.is) refl; later = n.later })
-line_is setup words lines.Settle s within = tail_again setup words verbs.Settle lines.Settle [] s (λ rest t. record { rest = rest; is = refl; later = t })
-line_is setup words (lines.Tick by) s within = tail_again setup words verbs.Tick (lines.Tick by) (Number by ∷ []) s (λ rest t. let n = within_again 1 (2 ^ 32) rest by [] t within.0 within.1 in record { rest = n.rest; is = rw n.is refl; later = n.later })
-line_is setup words (lines.Fuse server calls) s within = tail_again setup words verbs.Fuse (lines.Fuse server calls) (Number server ∷ Number calls ∷ []) s (λ rest t. let v = server_again setup rest server (Number calls ∷ []) t within.0 in let n = within_again 0 (2 ^ 32) v.rest calls [] v.later (omega arith) within.1 in record { rest = n.rest; is = rw (v.is, n.is) refl; later = n.later })
-line_is setup words (lines.Stop server) s within = tail_again setup words verbs.Stop (lines.Stop server) (Number server ∷ []) s (λ rest t. let v = server_again setup rest server [] t within in record { rest = v.rest; is = rw v.is refl; later = v.later })
-line_is setup words (lines.Restart server) s within = tail_again setup words verbs.Restart (lines.Restart server) (Number server ∷ []) s (λ rest t. let v = server_again setup rest server [] t within in record { rest = v.rest; is = rw v.is refl; later = v.later })
+batch_again : (setup : Setup) (bytes : List ℕ) (server : ℕ) (places : List ℕ) → AreSaid bytes (Number server ∷ number_parts places) → IsServer setup server → 1 ≤ length places → length places ≤ 64 → Takes (batch_line setup bytes) (lines.Batch server places) []
+unfolding batch_line
+batch_again setup bytes server places s below some few =
+    let v = server_again setup bytes server (number_parts places) s below in
+    let n = numbers_again 64 v.rest places v.later few in
+    record { rest = n.rest; is = rw (v.is, n.is, le-leb 1 (length places) some) refl; later = n.later }
 
--- ---- what is found is what the words say
+nothing_again : (setup : Setup) (bytes : List ℕ) → AreSaid bytes [] → line_of setup bytes ≡ Some lines.Skipped
+unfolding line_of line_from
+nothing_again setup bytes s = ap (line_from setup) s
+
+pub line_is : (setup : Setup) (bytes : List ℕ) (line : Line) → AreSaid bytes (line_parts line) → IsWithin setup line → line_of setup bytes ≡ Some line
+unfolding line_after call_line issue_line retry_line deliver_line batch_line take_line remind_line tick_line fuse_line stop_line restart_line walk_line bulk_line rmdir_line feed_line promote_line
+line_is setup bytes lines.Skipped s within = nothing_again setup bytes s
+line_is setup bytes (lines.Call client call) s within = tail_again setup bytes verbs.Call (lines.Call client call) (Number client ∷ call_parts call) s (λ rest t. let a = asked_again setup rest client call t within.0 within.1 in record { rest = a.rest; is = rw a.is refl; later = a.later })
+line_is setup bytes (lines.Issue client call) s within = tail_again setup bytes verbs.Issue (lines.Issue client call) (Number client ∷ call_parts call) s (λ rest t. let a = asked_again setup rest client call t within.0 within.1 in record { rest = a.rest; is = rw a.is refl; later = a.later })
+line_is setup bytes (lines.Retry client) s within = tail_again setup bytes verbs.Retry (lines.Retry client) (Number client ∷ []) s (λ rest t. let c = client_again setup rest client [] t within in record { rest = c.rest; is = rw c.is refl; later = c.later })
+line_is setup bytes (lines.Deliver place) s within = tail_again setup bytes verbs.Deliver (lines.Deliver place) (Number place ∷ []) s (λ rest t. let n = number_again rest place [] t in record { rest = n.rest; is = rw n.is refl; later = n.later })
+line_is setup bytes (lines.Batch server places) s within = tail_again setup bytes verbs.Batch (lines.Batch server places) (Number server ∷ number_parts places) s (λ rest t. batch_again setup rest server places t within.0 within.1 within.2)
+line_is setup bytes (lines.Take client place) s within = tail_again setup bytes verbs.Take (lines.Take client place) (Number client ∷ Number place ∷ []) s (λ rest t. let c = client_again setup rest client (Number place ∷ []) t within in let n = number_again c.rest place [] c.later in record { rest = n.rest; is = rw (c.is, n.is) refl; later = n.later })
+line_is setup bytes lines.Settle s within = tail_again setup bytes verbs.Settle lines.Settle [] s (λ rest t. record { rest = rest; is = refl; later = t })
+line_is setup bytes (lines.Remind server) s within = tail_again setup bytes verbs.Remind (lines.Remind server) (Number server ∷ []) s (λ rest t. let v = server_again setup rest server [] t within in record { rest = v.rest; is = rw v.is refl; later = v.later })
+line_is setup bytes (lines.Tick by) s within = tail_again setup bytes verbs.Tick (lines.Tick by) (Number by ∷ []) s (λ rest t. let n = within_again 1 (2 ^ 32) rest by [] t within.0 within.1 in record { rest = n.rest; is = rw n.is refl; later = n.later })
+line_is setup bytes (lines.Fuse server calls) s within = tail_again setup bytes verbs.Fuse (lines.Fuse server calls) (Number server ∷ Number calls ∷ []) s (λ rest t. let v = server_again setup rest server (Number calls ∷ []) t within.0 in let n = within_again 0 (2 ^ 32) v.rest calls [] v.later (omega arith) within.1 in record { rest = n.rest; is = rw (v.is, n.is) refl; later = n.later })
+line_is setup bytes (lines.Stop server) s within = tail_again setup bytes verbs.Stop (lines.Stop server) (Number server ∷ []) s (λ rest t. let v = server_again setup rest server [] t within in record { rest = v.rest; is = rw v.is refl; later = v.later })
+line_is setup bytes (lines.Restart server) s within = tail_again setup bytes verbs.Restart (lines.Restart server) (Number server ∷ []) s (λ rest t. let v = server_again setup rest server [] t within in record { rest = v.rest; is = rw v.is refl; later = v.later })
+line_is setup bytes (lines.Walk client path) s within = tail_again setup bytes verbs.Walk (lines.Walk client path) (Number client ∷ Raw path ∷ []) s (λ rest t. let c = client_again setup rest client (Raw path ∷ []) t within in let p = text_again (word_at c.rest) path [] c.later in record { rest = p.rest; is = ap (λ o. o >>= (λ client. word_at client.1 >>= (λ path. Some (lines.Walk client.0 path.0, path.1)))) c.is ∙ ap (λ o. o >>= (λ path. Some (lines.Walk client path.0, path.1))) p.is; later = p.later })
+line_is setup bytes (lines.Bulk client dir name json) s within = tail_again setup bytes verbs.Bulk (lines.Bulk client dir name json) (Number client ∷ Number dir ∷ Named name ∷ Rest json ∷ []) s (λ rest t. let c = client_again setup rest client (Number dir ∷ Named name ∷ Rest json ∷ []) t within.0 in let p = place_again c.rest dir name (Rest json ∷ []) c.later within.1 in let j = text_again (rest_at p.rest) json [] p.later in record { rest = j.rest; is = ap (λ o. o >>= (λ client. place_at client.1 >>= (λ place. rest_at place.2 >>= (λ json. Some (lines.Bulk client.0 place.0 place.1 json.0, json.1))))) c.is ∙ ap (λ o. o >>= (λ place. rest_at place.2 >>= (λ json. Some (lines.Bulk client place.0 place.1 json.0, json.1)))) p.is ∙ ap (λ o. o >>= (λ json. Some (lines.Bulk client dir name json.0, json.1))) j.is; later = j.later })
+line_is setup bytes (lines.Rmdir client dir name) s within = tail_again setup bytes verbs.Rmdir (lines.Rmdir client dir name) (Number client ∷ Number dir ∷ Named name ∷ []) s (λ rest t. let c = client_again setup rest client (Number dir ∷ Named name ∷ []) t within.0 in let p = place_again c.rest dir name [] c.later within.1 in record { rest = p.rest; is = rw (c.is, p.is) refl; later = p.later })
+line_is setup bytes (lines.Feed server) s within = tail_again setup bytes verbs.Feed (lines.Feed server) (Number server ∷ []) s (λ rest t. let v = server_again setup rest server [] t within in record { rest = v.rest; is = rw v.is refl; later = v.later })
+line_is setup bytes (lines.Promote server) s within = tail_again setup bytes verbs.Promote (lines.Promote server) (Number server ∷ []) s (λ rest t. let v = server_again setup rest server [] t within in record { rest = v.rest; is = rw v.is refl; later = v.later })
+
+-- ---- what is found is what the bytes say
 
 -- a step that found something
 record Stepped {A B : Type 0} (found : Option A) (next : A → Option B) (end : B) : Type 0 where
@@ -201,65 +296,81 @@ abbrev with_parts : List Part → List Part → List Part
 with_parts [] more = more
 with_parts (part ∷ parts) more = part ∷ with_parts parts more
 
--- what is found behind more words completes them
-abbrev Completes : List (List ℕ) → List Part → List (List ℕ) → Type 0
-Completes words parts rest = (more : List Part) → AreSpelled rest more → AreSpelled words (with_parts parts more)
+-- what is found behind more bytes completes them
+abbrev Completes : List ℕ → List Part → List ℕ → Type 0
+Completes bytes parts rest = (more : List Part) → AreSaid rest more → AreSaid bytes (with_parts parts more)
 
-record WordFound (words : List (List ℕ)) (word : List ℕ) (rest : List (List ℕ)) : Type 0 where
-  is : words ≡ word ∷ rest
+-- a piece that was found, behind which more parts are said
+said_at : (found : Option (List ℕ × List ℕ)) (piece : List ℕ × List ℕ) (part : Part) (more : List Part) → found ≡ Some piece → IsSpelled piece.0 part → AreSaid piece.1 more → MatchOption found ⊥ (λ piece. IsSpelled piece.0 part × AreSaid piece.1 more)
+said_at found piece part more is spelled later = subst (λ o. MatchOption o ⊥ (λ piece. IsSpelled piece.0 part × AreSaid piece.1 more)) (sym is) (spelled, later)
 
-word_found : (words : List (List ℕ)) (x : List ℕ × List (List ℕ)) → word_at words ≡ Some x → WordFound words x.0 x.1
-unfolding word_at
-word_found [] x found = absurd cc
-word_found (word ∷ words) x found = subst (λ (x : List ℕ × List (List ℕ)). WordFound (word ∷ words) x.0 x.1) (same_Some (word, words) x found) (record { is = refl })
-
-number_read : (words : List (List ℕ)) (x : ℕ × List (List ℕ)) → number_at words ≡ Some x → Completes words (Number x.0 ∷ []) x.1
+number_read : (bytes : List ℕ) (x : ℕ × List ℕ) → number_at bytes ≡ Some x → Completes bytes (Number x.0 ∷ []) x.1
 unfolding number_at
-number_read words x found more later =
-    let w = step (word_at words) (λ w. number_of w.0 >>= (λ n. Some (n, w.1))) x found in
+number_read bytes x found more later =
+    let w = step (word_at bytes) (λ w. number_of w.0 >>= (λ n. Some (n, w.1))) x found in
     let n = step (number_of w.value.0) (λ n. Some (n, w.value.1)) x w.second in
     let number = number_found w.value.0 n.value n.first in
     let same : (n.value, w.value.1) ≡ x = same_Some (n.value, w.value.1) x n.second in
-    subst (λ words. AreSpelled words (Number x.0 ∷ more)) (sym (word_found words w.value w.first).is)
-    ((number.is ∙ ap (λ (p : ℕ × List (List ℕ)). decimal p.0) same, subst (λ (p : ℕ × List (List ℕ)). p.0 < 2 ^ 64) same number.fits), subst (λ (p : ℕ × List (List ℕ)). AreSpelled p.1 more) (sym same) later)
+    said_at (word_at bytes) w.value (Number x.0) more w.first
+    (number.is ∙ ap (λ (p : ℕ × List ℕ). decimal p.0) same, subst (λ (p : ℕ × List ℕ). p.0 < 2 ^ 64) same number.fits)
+    (subst (λ (p : ℕ × List ℕ). AreSaid p.1 more) (sym same) later)
 
 -- a number in a range
-record Within (least most number : ℕ) (words : List (List ℕ)) (rest : List (List ℕ)) : Type 0 where
+record Within (least most number : ℕ) (bytes : List ℕ) (rest : List ℕ) : Type 0 where
   low : least ≤ number
   high : number ≤ most
-  read : Completes words (Number number ∷ []) rest
+  read : Completes bytes (Number number ∷ []) rest
 
-within_read : (least most : ℕ) (words : List (List ℕ)) (x : ℕ × List (List ℕ)) → number_within least most words ≡ Some x → Within least most x.0 words x.1
+within_read : (least most : ℕ) (bytes : List ℕ) (x : ℕ × List ℕ) → number_within least most bytes ≡ Some x → Within least most x.0 bytes x.1
 unfolding number_within
-within_read least most words x found =
-    let n = step (number_at words) (λ n. cond (nat_le least n.0 && nat_le n.0 most) (Some n) None) x found in
+within_read least most bytes x found =
+    let n = step (number_at bytes) (λ n. cond (nat_le least n.0 && nat_le n.0 most) (Some n) None) x found in
     let tests = cond_some (nat_le least n.value.0 && nat_le n.value.0 most) n.value x n.second in
     let both = and_parts (nat_le least n.value.0) (nat_le n.value.0 most) tests.0 in
-    subst (λ (x : ℕ × List (List ℕ)). Within least most x.0 words x.1) tests.1 (record { low = leb-true least n.value.0 both.0; high = leb-true n.value.0 most both.1; read = number_read words n.value n.first })
+    subst (λ (x : ℕ × List ℕ). Within least most x.0 bytes x.1) tests.1 (record { low = leb-true least n.value.0 both.0; high = leb-true n.value.0 most both.1; read = number_read bytes n.value n.first })
 
-record Below (setup : Setup) (server : ℕ) (words rest : List (List ℕ)) : Type 0 where
+record Below (setup : Setup) (server : ℕ) (bytes rest : List ℕ) : Type 0 where
   below : server < setup.servers
-  read : Completes words (Number server ∷ []) rest
+  read : Completes bytes (Number server ∷ []) rest
 
-server_read : (setup : Setup) (words : List (List ℕ)) (x : ℕ × List (List ℕ)) → server_at setup words ≡ Some x → Below setup x.0 words x.1
+server_read : (setup : Setup) (bytes : List ℕ) (x : ℕ × List ℕ) → server_at setup bytes ≡ Some x → Below setup x.0 bytes x.1
 unfolding server_at
-server_read setup words x found =
-    let n = step (number_at words) (λ n. cond (nat_lt n.0 setup.servers) (Some n) None) x found in
+server_read setup bytes x found =
+    let n = step (number_at bytes) (λ n. cond (nat_lt n.0 setup.servers) (Some n) None) x found in
     let tests = cond_some (nat_lt n.value.0 setup.servers) n.value x n.second in
-    subst (λ (x : ℕ × List (List ℕ)). Below setup x.0 words x.1) tests.1 (record { below = ltb-true n.value.0 setup.servers tests.0; read = number_read words n.value n.first })
+    subst (λ (x : ℕ × List ℕ). Below setup x.0 bytes x.1) tests.1 (record { below = ltb-true n.value.0 setup.servers tests.0; read = number_read bytes n.value n.first })
 
-name_read : (words : List (List ℕ)) (x : List ℕ × List (List ℕ)) → name_at words ≡ Some x → Completes words (Named x.0 ∷ []) x.1
+name_read : (bytes : List ℕ) (x : List ℕ × List ℕ) → name_at bytes ≡ Some x → Completes bytes (Named x.0 ∷ []) x.1
 unfolding name_at name_of
-name_read words x found more later =
-    let w = step (word_at words) (λ w. name_of w.0 >>= (λ n. Some (n, w.1))) x found in
+name_read bytes x found more later =
+    let w = step (word_at bytes) (λ w. name_of w.0 >>= (λ n. Some (n, w.1))) x found in
     let n = step (name_of w.value.0) (λ n. Some (n, w.value.1)) x w.second in
-    let bytes = step (unescaped w.value.0) checked_name n.value n.first in
-    let tests = cond_some (is_name bytes.value) bytes.value n.value bytes.second in
-    let spelled = subst (SpellsName w.value.0) tests.1 (name_found w.value.0 bytes.value bytes.first) in
+    let text = step (unescaped w.value.0) checked_name n.value n.first in
+    let tests = cond_some (is_name text.value) text.value n.value text.second in
+    let spelled = subst (SpellsName w.value.0) tests.1 (name_found w.value.0 text.value text.first) in
     let named : IsTrue (is_name n.value) = ap is_name (sym tests.1) ∙ tests.0 in
     let same : (n.value, w.value.1) ≡ x = same_Some (n.value, w.value.1) x n.second in
-    subst (λ words. AreSpelled words (Named x.0 ∷ more)) (sym (word_found words w.value w.first).is)
-    (subst (λ (p : List ℕ × List (List ℕ)). SpellsName w.value.0 p.0 × IsTrue (is_name p.0)) same (spelled, named), subst (λ (p : List ℕ × List (List ℕ)). AreSpelled p.1 more) (sym same) later)
+    said_at (word_at bytes) w.value (Named x.0) more w.first
+    (subst (λ (p : List ℕ × List ℕ). SpellsName w.value.0 p.0 × IsTrue (is_name p.0)) same (spelled, named))
+    (subst (λ (p : List ℕ × List ℕ). AreSaid p.1 more) (sym same) later)
+
+-- a directory, and a name in it
+record Placed (bytes : List ℕ) (dir : ℕ) (name rest : List ℕ) : Type 0 where
+  within : IsDirectory dir
+  read : Completes bytes (Number dir ∷ Named name ∷ []) rest
+
+directory_in : (dir : ℕ) → 1 ≤ dir → dir ≤ 2 ^ 48 - 1 → IsDirectory dir
+directory_in dir low high = (low, omega (arith, high))
+
+place_read : (bytes : List ℕ) (x : ℕ × List ℕ × List ℕ) → place_at bytes ≡ Some x → Placed bytes x.0 x.1 x.2
+unfolding place_at
+place_read bytes x found =
+    let d = step (directory_at bytes) (λ dir. name_at dir.1 >>= (λ name. Some (dir.0, name.0, name.1))) x found in
+    let n = step (name_at d.value.1) (λ name. Some (d.value.0, name.0, name.1)) x d.second in
+    let dir = within_read 1 (2 ^ 48 - 1) bytes d.value d.first in
+    let name = name_read d.value.1 n.value n.first in
+    subst (λ (x : ℕ × List ℕ × List ℕ). Placed bytes x.0 x.1 x.2) (same_Some (d.value.0, n.value.0, n.value.1) x n.second)
+    (record { within = directory_in d.value.0 dir.low dir.high; read = λ more later. dir.read (Named n.value.0 ∷ more) (name more later) })
 
 found_passes : {X : Type 0} (p : X → Bool) (xs : List X) (x : X) → find p xs ≡ Some x → p x ≡ true
 found_passes p [] x found = absurd cc
@@ -277,144 +388,270 @@ call_verb_found : (word : List ℕ) (verb : CallVerb) → call_verb_of word ≡ 
 unfolding call_verb_of
 call_verb_found word verb found = sym ((bytes_eq-Decides (call_verb_text verb) word).0 (found_passes (λ verb. pointwise nat_eq (call_verb_text verb) word) each_call_verb verb found))
 
--- the stamp that was found, and what follows it
-record StampFound (words : List (List ℕ)) (stamp : Option Stamp) (rest : List (List ℕ)) : Type 0 where
-  within : IsStamp stamp
-  read : AreSpelled rest [] → AreSpelled words (stamp_parts stamp)
+-- no word is left
+none_behind : (bytes : List ℕ) → is_end bytes ≡ true → AreSaid bytes []
+unfolding is_end
+none_behind bytes end = by (word_at bytes) end
+  where
+    by : (o : Option (List ℕ × List ℕ)) → not (is_some o) ≡ true → o ≡ None
+    by None end = refl
+    by (Some piece) end = absurd cc
 
-stamp_read : (words : List (List ℕ)) (x : Option Stamp × List (List ℕ)) → stamp_at words ≡ Some x → StampFound words x.0 x.1
-unfolding stamp_at
-stamp_read [] x found = subst (λ (x : Option Stamp × List (List ℕ)). StampFound [] x.0 x.1) (same_Some (None, []) x found) (record { within = tt; read = λ end. end })
-stamp_read (word ∷ words) x found =
-    let o = step (number_within 0 (2 ^ 32 - 1) (word ∷ words)) (λ owner. number_at owner.1 >>= (λ mtime. Some (Some (record { owner = owner.0; mtime = mtime.0 }), mtime.1))) x found in
+-- the stamp that was found, and what follows it
+record StampFound (bytes : List ℕ) (stamp : Option Stamp) (rest : List ℕ) : Type 0 where
+  within : IsStamp stamp
+  read : AreSaid rest [] → AreSaid bytes (stamp_parts stamp)
+
+owner_in : (owner : ℕ) → owner ≤ 2 ^ 32 - 1 → owner < 2 ^ 32
+owner_in owner high = omega (arith, high)
+
+stamp_here_read : (bytes : List ℕ) (x : Option Stamp × List ℕ) → stamp_here bytes ≡ Some x → StampFound bytes x.0 x.1
+unfolding stamp_here
+stamp_here_read bytes x found =
+    let o = step (number_within 0 (2 ^ 32 - 1) bytes) (λ owner. number_at owner.1 >>= (λ mtime. Some (Some (record { owner = owner.0; mtime = mtime.0 }), mtime.1))) x found in
     let m = step (number_at o.value.1) (λ mtime. Some (Some (record { owner = o.value.0; mtime = mtime.0 }), mtime.1)) x o.second in
-    let owner = within_read 0 (2 ^ 32 - 1) (word ∷ words) o.value o.first in
+    let owner = within_read 0 (2 ^ 32 - 1) bytes o.value o.first in
     let mtime = number_read o.value.1 m.value m.first in
-    subst (λ (x : Option Stamp × List (List ℕ)). StampFound (word ∷ words) x.0 x.1) (same_Some (Some (record { owner = o.value.0; mtime = m.value.0 }), m.value.1) x m.second)
-    (record { within = omega (arith, owner.high); read = λ end. owner.read (Number m.value.0 ∷ []) (mtime [] end) })
+    subst (λ (x : Option Stamp × List ℕ). StampFound bytes x.0 x.1) (same_Some (Some (record { owner = o.value.0; mtime = m.value.0 }), m.value.1) x m.second)
+    (record { within = owner_in o.value.0 owner.high; read = λ end. owner.read (Number m.value.0 ∷ []) (mtime [] end) })
+
+stamp_read : (bytes : List ℕ) (x : Option Stamp × List ℕ) → stamp_at bytes ≡ Some x → StampFound bytes x.0 x.1
+unfolding stamp_at
+stamp_read bytes x found = by (is_end bytes) found
+  where
+    by : (t : Bool) → cond t (Some (None, bytes)) (stamp_here bytes) ≡ Some x → StampFound bytes x.0 x.1
+    by true found = subst (λ (x : Option Stamp × List ℕ). StampFound bytes x.0 x.1) (same_Some (None, bytes) x found) (record { within = tt; read = λ end. end })
+    by false found = stamp_here_read bytes x found
 
 -- the call that was found, and what follows it
-record CallFound (words : List (List ℕ)) (call : Call) (rest : List (List ℕ)) : Type 0 where
+record CallFound (bytes : List ℕ) (call : Call) (rest : List ℕ) : Type 0 where
   asked : IsAsked call
-  read : AreSpelled rest [] → AreSpelled words (call_parts call)
+  read : AreSaid rest [] → AreSaid bytes (call_parts call)
 
-after_read : (verb : CallVerb) (dir : ℕ) (name : List ℕ) (words words' : List (List ℕ)) (x : Call × List (List ℕ)) → 1 ≤ dir → dir < 2 ^ 48 → Completes words (Keyword (call_verb_text verb) ∷ Number dir ∷ Named name ∷ []) words' → call_after verb dir name words' ≡ Some x → CallFound words x.0 x.1
-unfolding call_after
-after_read asked.Create dir name words words' x low high read found =
-    subst (λ (x : Call × List (List ℕ)). CallFound words x.0 x.1) (same_Some (calls.Create dir name, words') x found) (record { asked = (low, high); read = read [] })
-after_read asked.Mkdir dir name words words' x low high read found =
-    subst (λ (x : Call × List (List ℕ)). CallFound words x.0 x.1) (same_Some (calls.Mkdir dir name, words') x found) (record { asked = (low, high); read = read [] })
-after_read asked.Remove dir name words words' x low high read found =
-    subst (λ (x : Call × List (List ℕ)). CallFound words x.0 x.1) (same_Some (calls.Remove dir name, words') x found) (record { asked = (low, high); read = read [] })
-after_read asked.Lookup dir name words words' x low high read found =
-    subst (λ (x : Call × List (List ℕ)). CallFound words x.0 x.1) (same_Some (calls.Lookup dir name, words') x found) (record { asked = (low, high); read = read [] })
-after_read asked.Setattr dir name words words' x low high read found =
-    let m = step (number_within 0 4095 words') (λ mode. number_at mode.1 >>= (λ size. stamp_at size.1 >>= (λ stamp. Some (calls.Setattr dir name mode.0 size.0 stamp.0, stamp.1)))) x found in
+setattr_read : (text : List ℕ) (dir : ℕ) (name bytes : List ℕ) (x : Call × List ℕ) → IsDirectory dir → Completes text (Keyword (codes "setattr") ∷ Number dir ∷ Named name ∷ []) bytes → setattr_after dir name bytes ≡ Some x → CallFound text x.0 x.1
+unfolding setattr_after
+setattr_read text dir name bytes x within before found =
+    let m = step (number_within 0 4095 bytes) (λ mode. number_at mode.1 >>= (λ size. stamp_at size.1 >>= (λ stamp. Some (calls.Setattr dir name mode.0 size.0 stamp.0, stamp.1)))) x found in
     let s = step (number_at m.value.1) (λ size. stamp_at size.1 >>= (λ stamp. Some (calls.Setattr dir name m.value.0 size.0 stamp.0, stamp.1))) x m.second in
     let t = step (stamp_at s.value.1) (λ stamp. Some (calls.Setattr dir name m.value.0 s.value.0 stamp.0, stamp.1)) x s.second in
-    let mode = within_read 0 4095 words' m.value m.first in
+    let mode = within_read 0 4095 bytes m.value m.first in
     let size = number_read m.value.1 s.value s.first in
     let stamp = stamp_read s.value.1 t.value t.first in
-    subst (λ (x : Call × List (List ℕ)). CallFound words x.0 x.1) (same_Some (calls.Setattr dir name m.value.0 s.value.0 t.value.0, t.value.1) x t.second)
+    subst (λ (x : Call × List ℕ). CallFound text x.0 x.1) (same_Some (calls.Setattr dir name m.value.0 s.value.0 t.value.0, t.value.1) x t.second)
     (record {
-      asked = ((low, high), mode.high, stamp.within);
-      read = λ end. read (Number m.value.0 ∷ Number s.value.0 ∷ stamp_parts t.value.0) (mode.read (Number s.value.0 ∷ stamp_parts t.value.0) (size (stamp_parts t.value.0) (stamp.read end)));
+      asked = (within, mode.high, stamp.within);
+      read = λ end. before (Number m.value.0 ∷ Number s.value.0 ∷ stamp_parts t.value.0) (mode.read (Number s.value.0 ∷ stamp_parts t.value.0) (size (stamp_parts t.value.0) (stamp.read end)));
     })
 
-call_read : (words : List (List ℕ)) (x : Call × List (List ℕ)) → call_at words ≡ Some x → CallFound words x.0 x.1
+after_read : (verb : CallVerb) (text bytes : List ℕ) (x : Call × List ℕ) → Completes text (Keyword (call_verb_text verb) ∷ []) bytes → call_after verb bytes ≡ Some x → CallFound text x.0 x.1
+unfolding call_after
+after_read asked.Create text bytes x before found =
+    let p = step (place_at bytes) (λ place. Some (calls.Create place.0 place.1, place.2)) x found in
+    let place = place_read bytes p.value p.first in
+    subst (λ (x : Call × List ℕ). CallFound text x.0 x.1) (same_Some (calls.Create p.value.0 p.value.1, p.value.2) x p.second)
+    (record { asked = place.within; read = λ end. before (Number p.value.0 ∷ Named p.value.1 ∷ []) (place.read [] end) })
+after_read asked.Mkdir text bytes x before found =
+    let p = step (place_at bytes) (λ place. Some (calls.Mkdir place.0 place.1, place.2)) x found in
+    let place = place_read bytes p.value p.first in
+    subst (λ (x : Call × List ℕ). CallFound text x.0 x.1) (same_Some (calls.Mkdir p.value.0 p.value.1, p.value.2) x p.second)
+    (record { asked = place.within; read = λ end. before (Number p.value.0 ∷ Named p.value.1 ∷ []) (place.read [] end) })
+after_read asked.Remove text bytes x before found =
+    let p = step (place_at bytes) (λ place. Some (calls.Remove place.0 place.1, place.2)) x found in
+    let place = place_read bytes p.value p.first in
+    subst (λ (x : Call × List ℕ). CallFound text x.0 x.1) (same_Some (calls.Remove p.value.0 p.value.1, p.value.2) x p.second)
+    (record { asked = place.within; read = λ end. before (Number p.value.0 ∷ Named p.value.1 ∷ []) (place.read [] end) })
+after_read asked.Lookup text bytes x before found =
+    let p = step (place_at bytes) (λ place. Some (calls.Lookup place.0 place.1, place.2)) x found in
+    let place = place_read bytes p.value p.first in
+    subst (λ (x : Call × List ℕ). CallFound text x.0 x.1) (same_Some (calls.Lookup p.value.0 p.value.1, p.value.2) x p.second)
+    (record { asked = place.within; read = λ end. before (Number p.value.0 ∷ Named p.value.1 ∷ []) (place.read [] end) })
+after_read asked.Setattr text bytes x before found =
+    let p = step (place_at bytes) (λ place. setattr_after place.0 place.1 place.2) x found in
+    let place = place_read bytes p.value p.first in
+    setattr_read text p.value.0 p.value.1 p.value.2 x place.within (λ more later. before (Number p.value.0 ∷ Named p.value.1 ∷ more) (place.read more later)) p.second
+after_read asked.Scan text bytes x before found =
+    let d = step (directory_at bytes) (λ dir. Some (calls.Scan dir.0, dir.1)) x found in
+    let dir = within_read 1 (2 ^ 48 - 1) bytes d.value d.first in
+    subst (λ (x : Call × List ℕ). CallFound text x.0 x.1) (same_Some (calls.Scan d.value.0, d.value.1) x d.second)
+    (record { asked = directory_in d.value.0 dir.low dir.high; read = λ end. before (Number d.value.0 ∷ []) (dir.read [] end) })
+
+call_read : (bytes : List ℕ) (x : Call × List ℕ) → call_at bytes ≡ Some x → CallFound bytes x.0 x.1
 unfolding call_at
-call_read words x found =
-    let w = step (word_at words) (λ w. call_verb_of w.0 >>= (λ verb. number_within 1 (2 ^ 48 - 1) w.1 >>= (λ dir. name_at dir.1 >>= (λ name. call_after verb dir.0 name.0 name.1)))) x found in
-    let v = step (call_verb_of w.value.0) (λ verb. number_within 1 (2 ^ 48 - 1) w.value.1 >>= (λ dir. name_at dir.1 >>= (λ name. call_after verb dir.0 name.0 name.1))) x w.second in
-    let d = step (number_within 1 (2 ^ 48 - 1) w.value.1) (λ dir. name_at dir.1 >>= (λ name. call_after v.value dir.0 name.0 name.1)) x v.second in
-    let n = step (name_at d.value.1) (λ name. call_after v.value d.value.0 name.0 name.1) x d.second in
-    let dir = within_read 1 (2 ^ 48 - 1) w.value.1 d.value d.first in
-    let name = name_read d.value.1 n.value n.first in
-    let read : Completes words (Keyword (call_verb_text v.value) ∷ Number d.value.0 ∷ Named n.value.0 ∷ []) n.value.1 =
-    λ more later. subst (λ words. AreSpelled words (Keyword (call_verb_text v.value) ∷ Number d.value.0 ∷ Named n.value.0 ∷ more)) (sym (word_found words w.value w.first).is)
-    (call_verb_found w.value.0 v.value v.first, dir.read (Named n.value.0 ∷ more) (name more later)) in
-    after_read v.value d.value.0 n.value.0 words n.value.1 x dir.low (omega (arith, dir.high)) read n.second
+call_read bytes x found =
+    let w = step (word_at bytes) (λ w. call_verb_of w.0 >>= (λ verb. call_after verb w.1)) x found in
+    let v = step (call_verb_of w.value.0) (λ verb. call_after verb w.value.1) x w.second in
+    after_read v.value bytes w.value.1 x (λ more later. said_at (word_at bytes) w.value (Keyword (call_verb_text v.value)) more w.first (call_verb_found w.value.0 v.value v.first) later) v.second
 
 -- the client and the call that were found, and what follows them
-record AskFound (setup : Setup) (words : List (List ℕ)) (client : ℕ) (call : Call) (rest : List (List ℕ)) : Type 0 where
+record AskFound (setup : Setup) (bytes : List ℕ) (client : ℕ) (call : Call) (rest : List ℕ) : Type 0 where
   client_in : IsClient setup client
   asked : IsAsked call
-  read : AreSpelled rest [] → AreSpelled words (Number client ∷ call_parts call)
+  read : AreSaid rest [] → AreSaid bytes (Number client ∷ call_parts call)
 
-asked_read : (setup : Setup) (words : List (List ℕ)) (x : ℕ × Call × List (List ℕ)) → asked_at setup words ≡ Some x → AskFound setup words x.0 x.1 x.2
+asked_read : (setup : Setup) (bytes : List ℕ) (x : ℕ × Call × List ℕ) → asked_at setup bytes ≡ Some x → AskFound setup bytes x.0 x.1 x.2
 unfolding asked_at
-asked_read setup words x found =
-    let c = step (number_within 1 setup.clients words) (λ client. call_at client.1 >>= (λ call. Some (client.0, call.0, call.1))) x found in
+asked_read setup bytes x found =
+    let c = step (client_at setup bytes) (λ client. call_at client.1 >>= (λ call. Some (client.0, call.0, call.1))) x found in
     let d = step (call_at c.value.1) (λ call. Some (c.value.0, call.0, call.1)) x c.second in
-    let client = within_read 1 setup.clients words c.value c.first in
+    let client = within_read 1 setup.clients bytes c.value c.first in
     let call = call_read c.value.1 d.value d.first in
-    subst (λ (x : ℕ × Call × List (List ℕ)). AskFound setup words x.0 x.1 x.2) (same_Some (c.value.0, d.value.0, d.value.1) x d.second)
+    subst (λ (x : ℕ × Call × List ℕ). AskFound setup bytes x.0 x.1 x.2) (same_Some (c.value.0, d.value.0, d.value.1) x d.second)
     (record { client_in = (client.low, client.high); asked = call.asked; read = λ end. client.read (call_parts d.value.0) (call.read end) })
 
+-- a word as it stands, and the rest as it stands
+raw_read : (bytes : List ℕ) (x : List ℕ × List ℕ) → word_at bytes ≡ Some x → Completes bytes (Raw x.0 ∷ []) x.1
+raw_read bytes x found more later = said_at (word_at bytes) x (Raw x.0) more found refl later
+
+rest_read : (bytes : List ℕ) (x : List ℕ × List ℕ) → rest_at bytes ≡ Some x → Completes bytes (Rest x.0 ∷ []) x.1
+rest_read bytes x found more later = said_at (rest_at bytes) x (Rest x.0) more found refl later
+
+-- the numbers that were found, and what follows them
+record NumbersFound (most : ℕ) (bytes : List ℕ) (numbers : List ℕ) (rest : List ℕ) : Type 0 where
+  few : length numbers ≤ most
+  read : AreSaid rest [] → AreSaid bytes (number_parts numbers)
+
+more_few : (numbers : List ℕ) (number most : ℕ) → length numbers ≤ most → length (number ∷ numbers) ≤ suc most
+more_few numbers number most few = omega (arith, few)
+
+none_found : (most : ℕ) (bytes : List ℕ) (x : List ℕ × List ℕ) → Some ([], bytes) ≡ Some x → NumbersFound most bytes x.0 x.1
+none_found most bytes x found = subst (λ (x : List ℕ × List ℕ). NumbersFound most bytes x.0 x.1) (same_Some ([], bytes) x found) (record { few = omega arith; read = λ end. end })
+
+numbers_read : (most : ℕ) (bytes : List ℕ) (x : List ℕ × List ℕ) → numbers_at most bytes ≡ Some x → NumbersFound most bytes x.0 x.1
+unfolding numbers_at
+numbers_read zero bytes x found = none_found zero bytes x found
+numbers_read (suc most) bytes x found = by (is_end bytes) found (numbers_read most)
+  where
+    by : (t : Bool) → cond t (Some ([], bytes)) (number_at bytes >>= (λ number. numbers_at most number.1 >>= (λ more. Some (number.0 ∷ more.0, more.1)))) ≡ Some x → ((rest : List ℕ) (y : List ℕ × List ℕ) → numbers_at most rest ≡ Some y → NumbersFound most rest y.0 y.1) → NumbersFound (suc most) bytes x.0 x.1
+    by true found later = none_found (suc most) bytes x found
+    by false found later =
+        let n = step (number_at bytes) (λ number. numbers_at most number.1 >>= (λ more. Some (number.0 ∷ more.0, more.1))) x found in
+        let m = step (numbers_at most n.value.1) (λ more. Some (n.value.0 ∷ more.0, more.1)) x n.second in
+        let behind = later n.value.1 m.value m.first in
+        subst (λ (x : List ℕ × List ℕ). NumbersFound (suc most) bytes x.0 x.1) (same_Some (n.value.0 ∷ m.value.0, m.value.1) x m.second)
+        (record { few = more_few m.value.0 n.value.0 most behind.few; read = λ end. number_read bytes n.value n.first (number_parts m.value.0) (behind.read end) })
+
 -- the line that was found behind its first word, and what follows it
-record LineFound (setup : Setup) (words : List (List ℕ)) (line : Line) (rest : List (List ℕ)) : Type 0 where
+record LineFound (setup : Setup) (bytes : List ℕ) (line : Line) (rest : List ℕ) : Type 0 where
   within : IsWithin setup line
-  read : AreSpelled rest [] → AreSpelled words (line_parts line)
+  read : AreSaid rest [] → AreSaid bytes (line_parts line)
 
-abbrev Finds : Setup → Verb → List (List ℕ) → Line × List (List ℕ) → Type 0
-Finds setup verb words x = LineFound setup (verb_text verb ∷ words) x.0 x.1
+abbrev Finds : Setup → List ℕ → Line × List ℕ → Type 0
+Finds setup text x = LineFound setup text x.0 x.1
 
-after_found : (setup : Setup) (verb : Verb) (words : List (List ℕ)) (x : Line × List (List ℕ)) → line_after verb setup words ≡ Some x → Finds setup verb words x
-unfolding line_after call_line issue_line retry_line deliver_line take_line tick_line fuse_line stop_line restart_line
-after_found setup verbs.Call words x found =
-    let a = step (asked_at setup words) (λ asked. Some (lines.Call asked.0 asked.1, asked.2)) x found in
-    let ask = asked_read setup words a.value a.first in
-    subst (Finds setup verbs.Call words) (same_Some (lines.Call a.value.0 a.value.1, a.value.2) x a.second) (record { within = (ask.client_in, ask.asked); read = λ end. (refl, ask.read end) })
-after_found setup verbs.Issue words x found =
-    let a = step (asked_at setup words) (λ asked. Some (lines.Issue asked.0 asked.1, asked.2)) x found in
-    let ask = asked_read setup words a.value a.first in
-    subst (Finds setup verbs.Issue words) (same_Some (lines.Issue a.value.0 a.value.1, a.value.2) x a.second) (record { within = (ask.client_in, ask.asked); read = λ end. (refl, ask.read end) })
-after_found setup verbs.Retry words x found =
-    let c = step (number_within 1 setup.clients words) (λ client. Some (lines.Retry client.0, client.1)) x found in
-    let client = within_read 1 setup.clients words c.value c.first in
-    subst (Finds setup verbs.Retry words) (same_Some (lines.Retry c.value.0, c.value.1) x c.second) (record { within = (client.low, client.high); read = λ end. (refl, client.read [] end) })
-after_found setup verbs.Deliver words x found =
-    let n = step (number_at words) (λ place. Some (lines.Deliver place.0, place.1)) x found in
-    subst (Finds setup verbs.Deliver words) (same_Some (lines.Deliver n.value.0, n.value.1) x n.second) (record { within = tt; read = λ end. (refl, number_read words n.value n.first [] end) })
-after_found setup verbs.Take words x found =
-    let c = step (number_within 1 setup.clients words) (λ client. number_at client.1 >>= (λ place. Some (lines.Take client.0 place.0, place.1))) x found in
+batch_found : (setup : Setup) (text bytes : List ℕ) (x : Line × List ℕ) → Completes text (Keyword (codes "batch") ∷ []) bytes → batch_line setup bytes ≡ Some x → Finds setup text x
+unfolding batch_line
+batch_found setup text bytes x before found =
+    let s = step (server_at setup bytes) (λ server. numbers_at 64 server.1 >>= (λ places. cond (nat_le 1 (length places.0)) (Some (lines.Batch server.0 places.0, places.1)) None)) x found in
+    let n = step (numbers_at 64 s.value.1) (λ places. cond (nat_le 1 (length places.0)) (Some (lines.Batch s.value.0 places.0, places.1)) None) x s.second in
+    let tests = cond_some (nat_le 1 (length n.value.0)) (lines.Batch s.value.0 n.value.0, n.value.1) x n.second in
+    let server = server_read setup bytes s.value s.first in
+    let places = numbers_read 64 s.value.1 n.value n.first in
+    subst (Finds setup text) tests.1
+    (record {
+      within = (server.below, leb-true 1 (length n.value.0) tests.0, places.few);
+      read = λ end. before (Number s.value.0 ∷ number_parts n.value.0) (server.read (number_parts n.value.0) (places.read end));
+    })
+
+after_found : (setup : Setup) (verb : Verb) (text bytes : List ℕ) (x : Line × List ℕ) → Completes text (Keyword (verb_text verb) ∷ []) bytes → line_after verb setup bytes ≡ Some x → Finds setup text x
+unfolding line_after call_line issue_line retry_line deliver_line batch_line take_line remind_line tick_line fuse_line stop_line restart_line walk_line bulk_line rmdir_line feed_line promote_line
+after_found setup verbs.Call text bytes x before found =
+    let a = step (asked_at setup bytes) (λ asked. Some (lines.Call asked.0 asked.1, asked.2)) x found in
+    let ask = asked_read setup bytes a.value a.first in
+    subst (Finds setup text) (same_Some (lines.Call a.value.0 a.value.1, a.value.2) x a.second)
+    (record { within = (ask.client_in, ask.asked); read = λ end. before (Number a.value.0 ∷ call_parts a.value.1) (ask.read end) })
+after_found setup verbs.Issue text bytes x before found =
+    let a = step (asked_at setup bytes) (λ asked. Some (lines.Issue asked.0 asked.1, asked.2)) x found in
+    let ask = asked_read setup bytes a.value a.first in
+    subst (Finds setup text) (same_Some (lines.Issue a.value.0 a.value.1, a.value.2) x a.second)
+    (record { within = (ask.client_in, ask.asked); read = λ end. before (Number a.value.0 ∷ call_parts a.value.1) (ask.read end) })
+after_found setup verbs.Retry text bytes x before found =
+    let c = step (client_at setup bytes) (λ client. Some (lines.Retry client.0, client.1)) x found in
+    let client = within_read 1 setup.clients bytes c.value c.first in
+    subst (Finds setup text) (same_Some (lines.Retry c.value.0, c.value.1) x c.second)
+    (record { within = (client.low, client.high); read = λ end. before (Number c.value.0 ∷ []) (client.read [] end) })
+after_found setup verbs.Deliver text bytes x before found =
+    let n = step (number_at bytes) (λ place. Some (lines.Deliver place.0, place.1)) x found in
+    subst (Finds setup text) (same_Some (lines.Deliver n.value.0, n.value.1) x n.second)
+    (record { within = tt; read = λ end. before (Number n.value.0 ∷ []) (number_read bytes n.value n.first [] end) })
+after_found setup verbs.Batch text bytes x before found = batch_found setup text bytes x before found
+after_found setup verbs.Take text bytes x before found =
+    let c = step (client_at setup bytes) (λ client. number_at client.1 >>= (λ place. Some (lines.Take client.0 place.0, place.1))) x found in
     let n = step (number_at c.value.1) (λ place. Some (lines.Take c.value.0 place.0, place.1)) x c.second in
-    let client = within_read 1 setup.clients words c.value c.first in
-    subst (Finds setup verbs.Take words) (same_Some (lines.Take c.value.0 n.value.0, n.value.1) x n.second)
-    (record { within = (client.low, client.high); read = λ end. (refl, client.read (Number n.value.0 ∷ []) (number_read c.value.1 n.value n.first [] end)) })
-after_found setup verbs.Settle words x found =
-    subst (Finds setup verbs.Settle words) (same_Some (lines.Settle, words) x found) (record { within = tt; read = λ end. (refl, end) })
-after_found setup verbs.Tick words x found =
-    let n = step (number_within 1 (2 ^ 32) words) (λ by. Some (lines.Tick by.0, by.1)) x found in
-    let by = within_read 1 (2 ^ 32) words n.value n.first in
-    subst (Finds setup verbs.Tick words) (same_Some (lines.Tick n.value.0, n.value.1) x n.second) (record { within = (by.low, by.high); read = λ end. (refl, by.read [] end) })
-after_found setup verbs.Fuse words x found =
-    let s = step (server_at setup words) (λ server. number_within 0 (2 ^ 32) server.1 >>= (λ calls. Some (lines.Fuse server.0 calls.0, calls.1))) x found in
+    let client = within_read 1 setup.clients bytes c.value c.first in
+    subst (Finds setup text) (same_Some (lines.Take c.value.0 n.value.0, n.value.1) x n.second)
+    (record { within = (client.low, client.high); read = λ end. before (Number c.value.0 ∷ Number n.value.0 ∷ []) (client.read (Number n.value.0 ∷ []) (number_read c.value.1 n.value n.first [] end)) })
+after_found setup verbs.Settle text bytes x before found =
+    subst (Finds setup text) (same_Some (lines.Settle, bytes) x found) (record { within = tt; read = λ end. before [] end })
+after_found setup verbs.Remind text bytes x before found =
+    let s = step (server_at setup bytes) (λ server. Some (lines.Remind server.0, server.1)) x found in
+    let server = server_read setup bytes s.value s.first in
+    subst (Finds setup text) (same_Some (lines.Remind s.value.0, s.value.1) x s.second)
+    (record { within = server.below; read = λ end. before (Number s.value.0 ∷ []) (server.read [] end) })
+after_found setup verbs.Tick text bytes x before found =
+    let n = step (number_within 1 (2 ^ 32) bytes) (λ by. Some (lines.Tick by.0, by.1)) x found in
+    let by = within_read 1 (2 ^ 32) bytes n.value n.first in
+    subst (Finds setup text) (same_Some (lines.Tick n.value.0, n.value.1) x n.second)
+    (record { within = (by.low, by.high); read = λ end. before (Number n.value.0 ∷ []) (by.read [] end) })
+after_found setup verbs.Fuse text bytes x before found =
+    let s = step (server_at setup bytes) (λ server. number_within 0 (2 ^ 32) server.1 >>= (λ calls. Some (lines.Fuse server.0 calls.0, calls.1))) x found in
     let n = step (number_within 0 (2 ^ 32) s.value.1) (λ calls. Some (lines.Fuse s.value.0 calls.0, calls.1)) x s.second in
-    let server = server_read setup words s.value s.first in
+    let server = server_read setup bytes s.value s.first in
     let calls = within_read 0 (2 ^ 32) s.value.1 n.value n.first in
-    subst (Finds setup verbs.Fuse words) (same_Some (lines.Fuse s.value.0 n.value.0, n.value.1) x n.second)
-    (record { within = (server.below, calls.high); read = λ end. (refl, server.read (Number n.value.0 ∷ []) (calls.read [] end)) })
-after_found setup verbs.Stop words x found =
-    let s = step (server_at setup words) (λ server. Some (lines.Stop server.0, server.1)) x found in
-    let server = server_read setup words s.value s.first in
-    subst (Finds setup verbs.Stop words) (same_Some (lines.Stop s.value.0, s.value.1) x s.second) (record { within = server.below; read = λ end. (refl, server.read [] end) })
-after_found setup verbs.Restart words x found =
-    let s = step (server_at setup words) (λ server. Some (lines.Restart server.0, server.1)) x found in
-    let server = server_read setup words s.value s.first in
-    subst (Finds setup verbs.Restart words) (same_Some (lines.Restart s.value.0, s.value.1) x s.second) (record { within = server.below; read = λ end. (refl, server.read [] end) })
+    subst (Finds setup text) (same_Some (lines.Fuse s.value.0 n.value.0, n.value.1) x n.second)
+    (record { within = (server.below, calls.high); read = λ end. before (Number s.value.0 ∷ Number n.value.0 ∷ []) (server.read (Number n.value.0 ∷ []) (calls.read [] end)) })
+after_found setup verbs.Stop text bytes x before found =
+    let s = step (server_at setup bytes) (λ server. Some (lines.Stop server.0, server.1)) x found in
+    let server = server_read setup bytes s.value s.first in
+    subst (Finds setup text) (same_Some (lines.Stop s.value.0, s.value.1) x s.second)
+    (record { within = server.below; read = λ end. before (Number s.value.0 ∷ []) (server.read [] end) })
+after_found setup verbs.Restart text bytes x before found =
+    let s = step (server_at setup bytes) (λ server. Some (lines.Restart server.0, server.1)) x found in
+    let server = server_read setup bytes s.value s.first in
+    subst (Finds setup text) (same_Some (lines.Restart s.value.0, s.value.1) x s.second)
+    (record { within = server.below; read = λ end. before (Number s.value.0 ∷ []) (server.read [] end) })
+after_found setup verbs.Walk text bytes x before found =
+    let c = step (client_at setup bytes) (λ client. word_at client.1 >>= (λ path. Some (lines.Walk client.0 path.0, path.1))) x found in
+    let w = step (word_at c.value.1) (λ path. Some (lines.Walk c.value.0 path.0, path.1)) x c.second in
+    let client = within_read 1 setup.clients bytes c.value c.first in
+    subst (Finds setup text) (same_Some (lines.Walk c.value.0 w.value.0, w.value.1) x w.second)
+    (record { within = (client.low, client.high); read = λ end. before (Number c.value.0 ∷ Raw w.value.0 ∷ []) (client.read (Raw w.value.0 ∷ []) (raw_read c.value.1 w.value w.first [] end)) })
+after_found setup verbs.Bulk text bytes x before found =
+    let c = step (client_at setup bytes) (λ client. place_at client.1 >>= (λ place. rest_at place.2 >>= (λ json. Some (lines.Bulk client.0 place.0 place.1 json.0, json.1)))) x found in
+    let p = step (place_at c.value.1) (λ place. rest_at place.2 >>= (λ json. Some (lines.Bulk c.value.0 place.0 place.1 json.0, json.1))) x c.second in
+    let j = step (rest_at p.value.2) (λ json. Some (lines.Bulk c.value.0 p.value.0 p.value.1 json.0, json.1)) x p.second in
+    let client = within_read 1 setup.clients bytes c.value c.first in
+    let place = place_read c.value.1 p.value p.first in
+    subst (Finds setup text) (same_Some (lines.Bulk c.value.0 p.value.0 p.value.1 j.value.0, j.value.1) x j.second)
+    (record { within = ((client.low, client.high), place.within); read = λ end. before (Number c.value.0 ∷ Number p.value.0 ∷ Named p.value.1 ∷ Rest j.value.0 ∷ []) (client.read (Number p.value.0 ∷ Named p.value.1 ∷ Rest j.value.0 ∷ []) (place.read (Rest j.value.0 ∷ []) (rest_read p.value.2 j.value j.first [] end))) })
+after_found setup verbs.Rmdir text bytes x before found =
+    let c = step (client_at setup bytes) (λ client. place_at client.1 >>= (λ place. Some (lines.Rmdir client.0 place.0 place.1, place.2))) x found in
+    let p = step (place_at c.value.1) (λ place. Some (lines.Rmdir c.value.0 place.0 place.1, place.2)) x c.second in
+    let client = within_read 1 setup.clients bytes c.value c.first in
+    let place = place_read c.value.1 p.value p.first in
+    subst (Finds setup text) (same_Some (lines.Rmdir c.value.0 p.value.0 p.value.1, p.value.2) x p.second)
+    (record { within = ((client.low, client.high), place.within); read = λ end. before (Number c.value.0 ∷ Number p.value.0 ∷ Named p.value.1 ∷ []) (client.read (Number p.value.0 ∷ Named p.value.1 ∷ []) (place.read [] end)) })
+after_found setup verbs.Feed text bytes x before found =
+    let s = step (server_at setup bytes) (λ server. Some (lines.Feed server.0, server.1)) x found in
+    let server = server_read setup bytes s.value s.first in
+    subst (Finds setup text) (same_Some (lines.Feed s.value.0, s.value.1) x s.second)
+    (record { within = server.below; read = λ end. before (Number s.value.0 ∷ []) (server.read [] end) })
+after_found setup verbs.Promote text bytes x before found =
+    let s = step (server_at setup bytes) (λ server. Some (lines.Promote server.0, server.1)) x found in
+    let server = server_read setup bytes s.value s.first in
+    subst (Finds setup text) (same_Some (lines.Promote s.value.0, s.value.1) x s.second)
+    (record { within = server.below; read = λ end. before (Number s.value.0 ∷ []) (server.read [] end) })
 
-none_behind : (words : List (List ℕ)) → is_end words ≡ true → AreSpelled words []
-none_behind [] end = tt
-none_behind (word ∷ words) end = absurd cc
-
-pub line_found : (setup : Setup) (words : List (List ℕ)) (line : Line) → line_of setup words ≡ Some line → AreSpelled words (line_parts line) × IsWithin setup line
-unfolding line_of
-line_found setup [] line found = subst (λ line. AreSpelled [] (line_parts line) × IsWithin setup line) (same_Some lines.Skipped line found) (tt, tt)
-line_found setup (word ∷ words) line found =
-    let v = step (verb_of word) (λ verb. line_after verb setup words >>= (λ line. cond (is_end line.1) (Some line.0) None)) line found in
-    let l = step (line_after v.value setup words) (λ line. cond (is_end line.1) (Some line.0) None) line v.second in
+line_from_found : (setup : Setup) (bytes : List ℕ) (found : Option (List ℕ × List ℕ)) (line : Line) → word_at bytes ≡ found → line_from setup found ≡ Some line → AreSaid bytes (line_parts line) × IsWithin setup line
+unfolding line_from
+line_from_found setup bytes None line first found = subst (λ line. AreSaid bytes (line_parts line) × IsWithin setup line) (same_Some lines.Skipped line found) (first, tt)
+line_from_found setup bytes (Some word) line first found =
+    let v = step (verb_of word.0) (λ verb. line_after verb setup word.1 >>= (λ line. cond (is_end line.1) (Some line.0) None)) line found in
+    let l = step (line_after v.value setup word.1) (λ line. cond (is_end line.1) (Some line.0) None) line v.second in
     let end = cond_some (is_end l.value.1) l.value.0 line l.second in
-    let after = after_found setup v.value words l.value l.first in
-    subst (λ line. AreSpelled (word ∷ words) (line_parts line) × IsWithin setup line) end.1
-    (subst (λ word. AreSpelled (word ∷ words) (line_parts l.value.0)) (sym (verb_found word v.value v.first)) (after.read (none_behind l.value.1 end.0)), after.within)
+    let before : Completes bytes (Keyword (verb_text v.value) ∷ []) word.1 = λ more later. said_at (word_at bytes) word (Keyword (verb_text v.value)) more first (verb_found word.0 v.value v.first) later in
+    let after = after_found setup v.value bytes word.1 l.value before l.first in
+    subst (λ line. AreSaid bytes (line_parts line) × IsWithin setup line) end.1 (after.read (none_behind l.value.1 end.0), after.within)
+
+pub line_found : (setup : Setup) (bytes : List ℕ) (line : Line) → line_of setup bytes ≡ Some line → AreSaid bytes (line_parts line) × IsWithin setup line
+unfolding line_of
+line_found setup bytes line found = line_from_found setup bytes (word_at bytes) line refl found

@@ -1,9 +1,39 @@
 -- The words of a line: what stands between its blanks.
-use Rattle.std.specs.Prelude.{ℕ, List, [], ◌∷◌, Bool, true, ◌==◌, ◌||◌, if◌then◌else◌}
+use Rattle.std.specs.Prelude.{ℕ, List, [], ◌∷◌, Option, Some, None, Bool, true, not, ◌==◌, ◌||◌, if◌then◌else◌, length, take, drop}
+use Rattle.std.specs.List.{take_while}
 
 -- a space or a tab
 abbrev pub is_blank : ℕ → Bool
 is_blank byte = byte == 32 || byte == 9
+
+-- how many blanks stand in front, and how many bytes of a word
+abbrev pub blanks : List ℕ → ℕ
+blanks bytes = length (take_while is_blank bytes)
+
+abbrev pub letters : List ℕ → ℕ
+letters bytes = length (take_while (λ byte. not (is_blank byte)) bytes)
+
+-- the bytes without the blanks in front of them
+abbrev pub trimmed : List ℕ → List ℕ
+trimmed bytes = drop (blanks bytes) bytes
+
+-- the word with which a text begins and what is behind it, where there is a text
+abbrev pub front_word : List ℕ → Option (List ℕ × List ℕ)
+front_word [] = None
+front_word (byte ∷ bytes) = Some (take (letters (byte ∷ bytes)) (byte ∷ bytes), drop (letters (byte ∷ bytes)) (byte ∷ bytes))
+
+-- a whole text, where there is one
+abbrev pub whole_text : List ℕ → Option (List ℕ × List ℕ)
+whole_text [] = None
+whole_text (byte ∷ bytes) = Some (byte ∷ bytes, [])
+
+-- the first word and what is behind it
+unfoldable pub word_at : List ℕ → Option (List ℕ × List ℕ)
+word_at bytes = front_word (trimmed bytes)
+
+-- all from the first word on, behind which there is nothing
+unfoldable pub rest_at : List ℕ → Option (List ℕ × List ℕ)
+rest_at bytes = whole_text (trimmed bytes)
 
 -- whether a word ends before these bytes
 abbrev pub ends_word : List ℕ → Bool

@@ -8,14 +8,19 @@
 //! line, and that a printed line is read back.
 #![tactic(auto)]
 
+mod asking;
+mod byte_list;
 mod escape;
 mod fault;
 mod line;
 mod number;
+mod pieces;
 mod reading;
+mod stages;
 mod verb;
 mod words;
 
+pub use byte_list::ByteList;
 pub use fault::LineFault;
 pub use line::Line;
 pub use reading::{laws_of_lines, read_line};

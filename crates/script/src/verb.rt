@@ -9,25 +9,39 @@ pub(crate) enum Verb {
     Issue,
     Retry,
     Deliver,
+    Batch,
     Take,
     Settle,
+    Remind,
     Tick,
     Fuse,
     Stop,
     Restart,
+    Walk,
+    Bulk,
+    Rmdir,
+    Feed,
+    Promote,
 }
 
-const VERBS: [Verb; 10] = [
+const VERBS: [Verb; 17] = [
     Verb::Call,
     Verb::Issue,
     Verb::Retry,
     Verb::Deliver,
+    Verb::Batch,
     Verb::Take,
     Verb::Settle,
+    Verb::Remind,
     Verb::Tick,
     Verb::Fuse,
     Verb::Stop,
     Verb::Restart,
+    Verb::Walk,
+    Verb::Bulk,
+    Verb::Rmdir,
+    Verb::Feed,
+    Verb::Promote,
 ];
 
 impl Verb {
@@ -39,12 +53,19 @@ impl Verb {
             Verb::Issue => b"issue",
             Verb::Retry => b"retry",
             Verb::Deliver => b"deliver",
+            Verb::Batch => b"batch",
             Verb::Take => b"take",
             Verb::Settle => b"settle",
+            Verb::Remind => b"remind",
             Verb::Tick => b"tick",
             Verb::Fuse => b"fuse",
             Verb::Stop => b"stop",
             Verb::Restart => b"restart",
+            Verb::Walk => b"walk",
+            Verb::Bulk => b"bulk",
+            Verb::Rmdir => b"rmdir",
+            Verb::Feed => b"feed",
+            Verb::Promote => b"promote",
         }
     }
 }
@@ -65,14 +86,16 @@ pub(crate) enum CallVerb {
     Remove,
     Lookup,
     Setattr,
+    Scan,
 }
 
-const CALL_VERBS: [CallVerb; 5] = [
+const CALL_VERBS: [CallVerb; 6] = [
     CallVerb::Create,
     CallVerb::Mkdir,
     CallVerb::Remove,
     CallVerb::Lookup,
     CallVerb::Setattr,
+    CallVerb::Scan,
 ];
 
 impl CallVerb {
@@ -85,6 +108,7 @@ impl CallVerb {
             CallVerb::Remove => b"remove",
             CallVerb::Lookup => b"lookup",
             CallVerb::Setattr => b"setattr",
+            CallVerb::Scan => b"scan",
         }
     }
 }

@@ -1,11 +1,10 @@
-//! Splits a line into its words.
-ghost use Rattle.std.specs.Prelude.{◌≡◌, ◌∷◌, [], MatchOption, length, not};
-ghost use Rattle.std.specs.List.{take_while};
-ghost use Rattle.script.specs.Words.{is_blank, words_of};
+//! Takes the first word off a line.
+ghost use Rattle.std.specs.Prelude.{◌≡◌, MatchOption, None, Some};
+ghost use Rattle.script.specs.Words.{is_blank, blanks, letters, word_at, rest_at};
 
-/// The first word of a line and what follows it, where there is one.
+/// The first word of bytes and what is behind it, where there is a word.
 pub(crate) fn first_word(bytes: &[u8]) -> Option<(&[u8], &[u8])>
-    ensures { MatchOption result (words_of bytes.now ≡ []) (λ p. words_of bytes.now ≡ p.0.now ∷ words_of p.1.now) }
+    ensures { MatchOption result (word_at bytes.now ≡ None) (λ p. word_at bytes.now ≡ Some (p.0.now, p.1.now)) }
 {
     let start = &bytes[blanks(bytes)..];
     if start.is_empty() {
@@ -14,16 +13,27 @@ pub(crate) fn first_word(bytes: &[u8]) -> Option<(&[u8], &[u8])>
     Some(start.split_at(letters(start)))
 }
 
+/// All bytes from the first word on, where there is one, and the nothing behind them.
+pub(crate) fn whole_rest(bytes: &[u8]) -> Option<(&[u8], &[u8])>
+    ensures { MatchOption result (rest_at bytes.now ≡ None) (λ p. rest_at bytes.now ≡ Some (p.0.now, p.1.now)) }
+{
+    let start = &bytes[blanks(bytes)..];
+    if start.is_empty() {
+        return None;
+    }
+    Some(start.split_at(start.len()))
+}
+
 /// How many blanks stand before the first word.
 fn blanks(bytes: &[u8]) -> usize
-    ensures { result ≡ length (take_while is_blank bytes.now) }
+    ensures { result ≡ blanks bytes.now }
 {
     bytes.iter().take_while(|byte| is_blank(**byte)).count()
 }
 
 /// How long the word is with which the bytes begin.
 fn letters(bytes: &[u8]) -> usize
-    ensures { result ≡ length (take_while (λ byte. not (is_blank byte)) bytes.now) }
+    ensures { result ≡ letters bytes.now }
 {
     bytes.iter().take_while(|byte| !is_blank(**byte)).count()
 }
