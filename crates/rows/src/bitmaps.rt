@@ -30,7 +30,7 @@ fn bitmap_of(alloc: Global, words: &mut Words<'_>) -> Result<Bitmap, RowFault> {
     let parts = words.list(alloc)?;
     let mut spelled = [0; WORDS];
     for part in &parts {
-        if *part >= PARTS {
+        if *part >= u64::from(PARTS) {
             return Err(RowFault::Refused);
         }
         spelled[(*part / 64) as usize] |= 1 << (*part % 64);

@@ -8,9 +8,14 @@
 
 mod bitmaps;
 mod hashing;
+mod keeping;
+mod naming;
 mod placing;
 mod plain_bitmap;
+mod recording;
 mod row_fault;
+mod scripting;
+mod values;
 mod words;
 
 use row_fault::{Answer, RowFault};
@@ -33,7 +38,7 @@ fn reply(alloc: Global, line: &str) -> Result<String, AllocError> {
     if line.is_empty() || line.starts_with('#') {
         return String::from_str(alloc, line);
     }
-    match answer(alloc, Words::new(line)) {
+    match answer(alloc, Words::new(line, 0)) {
         Ok(text) => format!(in alloc; "{line} = {text}"),
         Err(RowFault::OutOfMemory) => Err(AllocError),
         Err(fault) => format!(in alloc; "{line} = {fault}"),
@@ -46,6 +51,10 @@ fn answer(alloc: Global, mut words: Words<'_>) -> Answer {
         "name_hash" => hashing::answer(alloc, words),
         "bitmap" => bitmaps::answer(alloc, words),
         "placement" => placing::answer(alloc, words),
+        "mds_base" => naming::answer(alloc, words),
+        "sessions" => keeping::answer(alloc, words),
+        "records" => recording::answer(alloc, words),
+        "script" => scripting::answer(alloc, words),
         _ => Err(RowFault::NotARow),
     }
 }

@@ -6,16 +6,18 @@ use percent_encoding::{AsciiSet, CONTROLS, percent_decode, percent_encode};
 use std::alloc::{AllocError, Global};
 use std::fmt::Write;
 
-/// The words of a row that are still to be read, with one space between them.
+/// The words of a row that are still to be read, with one space between them. The word `K` stands for a number: in a
+/// row that is run again and again, for that of the run.
 #[derive(Clone, Copy)]
 pub(crate) struct Words<'a> {
     rest: &'a str,
+    run: u64,
 }
 
 impl<'a> Words<'a> {
-    /// The words of a line.
-    pub(crate) fn new(line: &'a str) -> Words<'a> {
-        Words { rest: line }
+    /// The words of a line, in the run of this number.
+    pub(crate) fn new(line: &'a str, run: u64) -> Words<'a> {
+        Words { rest: line, run }
     }
 
     /// The next word.
@@ -41,6 +43,14 @@ impl<'a> Words<'a> {
         self.rest
     }
 
+    /// The words of an action of this row.
+    pub(crate) fn action(self, action: &'a str) -> Words<'a> {
+        Words {
+            rest: action,
+            run: self.run,
+        }
+    }
+
     /// Whether no word is left.
     pub(crate) fn is_empty(&self) -> bool {
         self.rest.is_empty()
@@ -57,7 +67,7 @@ impl<'a> Words<'a> {
 
     /// The next word, a decimal number.
     pub(crate) fn number(&mut self) -> Result<u64, RowFault> {
-        number(self.word()?)
+        number(self.word()?, self.run)
     }
 
     /// The next word, a decimal number below 2^32.
@@ -107,20 +117,23 @@ impl<'a> Words<'a> {
         }
     }
 
-    /// The next word, decimal numbers below 2^32 with commas between them; `-` is no number.
-    pub(crate) fn list(&mut self, alloc: Global) -> Result<Vec<u32>, RowFault> {
+    /// The next word, decimal numbers with commas between them; `-` is no number.
+    pub(crate) fn list(&mut self, alloc: Global) -> Result<Vec<u64>, RowFault> {
         let mut numbers = Vec::new(alloc);
         let word = self.word()?;
         if word != "-" {
             for part in word.split(',') {
-                numbers.push(small(part)?)?;
+                numbers.push(number(part, self.run)?)?;
             }
         }
         Ok(numbers)
     }
 }
 
-fn number(word: &str) -> Result<u64, RowFault> {
+fn number(word: &str, run: u64) -> Result<u64, RowFault> {
+    if word == "K" {
+        return Ok(run);
+    }
     match word.parse::<u64>() {
         Ok(number) => Ok(number),
         Err(_) => Err(RowFault::NotARow),
@@ -137,6 +150,17 @@ fn small(word: &str) -> Result<u32, RowFault> {
 /// A text of one word.
 pub(crate) fn text(alloc: Global, word: &str) -> Answer {
     Ok(String::from_str(alloc, word)?)
+}
+
+/// What stands between two actions of a row, and between their answers.
+pub(crate) const BETWEEN: &str = "; ";
+
+/// The answer to one action more, at the end of those before it.
+pub(crate) fn push_answer(out: &mut String, said: &str) -> Result<(), AllocError> {
+    if !out.as_str().is_empty() {
+        out.push_str(BETWEEN)?;
+    }
+    out.push_str(said)
 }
 
 /// `yes` or `no`.
