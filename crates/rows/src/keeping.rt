@@ -12,8 +12,8 @@ pub(crate) fn answer(alloc: Global, words: Words<'_>) -> Answer {
     let mut sessions = Sessions::new(alloc);
     let mut out = String::new(alloc);
     for action in words.rest().split(BETWEEN) {
-        let said = act(alloc, &mut sessions, words.action(action))?;
-        push_answer(&mut out, said.as_str())?;
+        let said = act(alloc, &mut sessions, words.action(action));
+        push_answer(&mut out, said)?;
     }
     Ok(out)
 }
@@ -55,7 +55,7 @@ fn note(alloc: Global, sessions: &mut Sessions, mut words: Words<'_>) -> Answer 
             sessions.note(client, seq, said)?;
             text(alloc, "ok")
         }
-        _ => text(alloc, "refused"),
+        _ => Err(RowFault::Refused),
     }
 }
 

@@ -7,16 +7,21 @@
 #![tactic(auto)]
 
 mod bitmaps;
+mod failing;
 mod hashing;
+mod history;
 mod keeping;
+mod logging;
 mod naming;
 mod placing;
 mod plain_bitmap;
 mod recording;
 mod row_fault;
 mod scripting;
+mod streaming;
 mod values;
 mod words;
+mod worlds;
 
 use row_fault::{Answer, RowFault};
 use std::alloc::{AllocError, Global};
@@ -55,6 +60,10 @@ fn answer(alloc: Global, mut words: Words<'_>) -> Answer {
         "sessions" => keeping::answer(alloc, words),
         "records" => recording::answer(alloc, words),
         "script" => scripting::answer(alloc, words),
+        "stream" => streaming::answer(alloc, words),
+        "mds_out" => failing::answer(alloc, words),
+        "gate_log" => logging::answer(alloc, words),
+        "world" => worlds::answer(alloc, words),
         _ => Err(RowFault::NotARow),
     }
 }

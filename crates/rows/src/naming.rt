@@ -2,7 +2,7 @@
 use crate::row_fault::{Answer, RowFault};
 use crate::values::{attr_text, read_file};
 use crate::words::{BETWEEN, Words, push_answer, push_name, text, yes_or_no};
-use mds_base::{Cursor, MapRows, Name, NameFault, RowKey, RowList, Rows, RowsFault};
+use mds_base::{Cursor, MapRows, Name, NameFault, RowKey, RowList, Rows};
 use std::alloc::Global;
 
 /// `name BYTES`, and `rows ACTION; ..`.
@@ -29,8 +29,8 @@ fn rows_row(alloc: Global, words: Words<'_>) -> Answer {
     let mut rows = MapRows::new(alloc);
     let mut out = String::new(alloc);
     for action in words.rest().split(BETWEEN) {
-        let said = act(alloc, &mut rows, words.action(action))?;
-        push_answer(&mut out, said.as_str())?;
+        let said = act(alloc, &mut rows, words.action(action));
+        push_answer(&mut out, said)?;
     }
     Ok(out)
 }
@@ -122,11 +122,4 @@ fn page_text(alloc: Global, page: &RowList) -> Answer {
         push_name(&mut out, &row.name)?;
     }
     Ok(out)
-}
-
-impl From<RowsFault> for RowFault {
-    // Rows in memory meet no fault of a device.
-    fn from(_: RowsFault) -> RowFault {
-        RowFault::OutOfMemory
-    }
 }

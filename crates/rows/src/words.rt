@@ -51,6 +51,14 @@ impl<'a> Words<'a> {
         }
     }
 
+    /// The same words, in the run of this number.
+    pub(crate) fn in_run(self, run: u64) -> Words<'a> {
+        Words {
+            rest: self.rest,
+            run,
+        }
+    }
+
     /// Whether no word is left.
     pub(crate) fn is_empty(&self) -> bool {
         self.rest.is_empty()
@@ -155,12 +163,16 @@ pub(crate) fn text(alloc: Global, word: &str) -> Answer {
 /// What stands between two actions of a row, and between their answers.
 pub(crate) const BETWEEN: &str = "; ";
 
-/// The answer to one action more, at the end of those before it.
-pub(crate) fn push_answer(out: &mut String, said: &str) -> Result<(), AllocError> {
+/// The answer to one action more, at the end of those before it. It is refused only where there is no memory.
+pub(crate) fn push_answer(out: &mut String, answer: Answer) -> Result<(), AllocError> {
     if !out.as_str().is_empty() {
         out.push_str(BETWEEN)?;
     }
-    out.push_str(said)
+    match answer {
+        Ok(said) => out.push_str(said.as_str()),
+        Err(RowFault::OutOfMemory) => Err(AllocError),
+        Err(fault) => write!(out, "{fault}"),
+    }
 }
 
 /// `yes` or `no`.
