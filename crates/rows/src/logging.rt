@@ -24,7 +24,7 @@ pub(crate) fn answer(alloc: Global, mut words: Words<'_>) -> Answer {
 }
 
 fn each(alloc: Global, words: Words<'_>) -> Answer {
-    let mut out = String::new(alloc);
+    let mut out = String::from_str(alloc, "in turn:")?;
     for number in 0..RUNS {
         let said = run(alloc, words.in_run(number))?;
         write!(out, "\n  {number}: {}", said.as_str())?;

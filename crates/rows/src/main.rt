@@ -13,6 +13,7 @@ mod history;
 mod keeping;
 mod logging;
 mod naming;
+mod opening;
 mod placing;
 mod plain_bitmap;
 mod recording;
@@ -63,6 +64,7 @@ fn answer(alloc: Global, mut words: Words<'_>) -> Answer {
         "stream" => streaming::answer(alloc, words),
         "mds_out" => failing::answer(alloc, words),
         "gate_log" => logging::answer(alloc, words),
+        "node_store" => opening::answer(alloc, words),
         "world" => worlds::answer(alloc, words),
         _ => Err(RowFault::NotARow),
     }
