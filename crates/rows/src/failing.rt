@@ -4,11 +4,11 @@ ghost use Rattle.std.specs.Prelude.{◌≡◌};
 use crate::row_fault::{Answer, RowFault};
 use crate::words::{BETWEEN, Words, hex_text, push_answer, text};
 use mds_out::{Disk, Fuse, Memory, Outcome};
-use std::alloc::Global;
+use std::alloc::{AllocError, Global};
 use std::fmt::Write;
 
 /// How often a row is run at most.
-const RUNS: u64 = 100;
+pub(crate) const RUNS: u64 = 100;
 
 /// `disk OUTCOME FAILS ACTION; ..` on a new disk, and `each OUTCOME FAILS ACTION; ..`, which is run for each K from 0 on
 /// up to the first run in which no call failed.
@@ -24,12 +24,17 @@ fn each(alloc: Global, words: Words<'_>) -> Answer {
     let mut out = String::from_str(alloc, "in turn:")?;
     for number in 0..RUNS {
         let said = run(alloc, words.in_run(number))?;
-        write!(out, "\n  {number}: {}", said.as_str())?;
-        if !said.as_str().contains("device") {
+        if !push_run(&mut out, number, said.as_str())? {
             break;
         }
     }
     Ok(out)
+}
+
+/// The answers of one run more, at the end of those before it; says whether a call failed in it.
+pub(crate) fn push_run(out: &mut String, number: u64, said: &str) -> Result<bool, AllocError> {
+    write!(out, "\n  {number}: {said}")?;
+    Ok(said.contains("device"))
 }
 
 fn run(alloc: Global, mut words: Words<'_>) -> Answer {

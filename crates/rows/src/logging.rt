@@ -3,15 +3,12 @@ ghost use Rattle.std.specs.Prelude.{MatchOption};
 ghost use Rattle.rows.specs.Benches.{IsRunning, IsBench};
 
 use crate::failing;
+use crate::failing::{RUNS, push_run};
 use crate::row_fault::{Answer, RowFault};
 use crate::words::{BETWEEN, Words, hex_text, push_answer, text};
 use gate_log::{GateLog, Piece};
 use mds_out::{Disk, Fuse};
 use std::alloc::Global;
-use std::fmt::Write;
-
-/// How often a row is run at most.
-const RUNS: u64 = 100;
 
 /// `log OUTCOME FAILS ACTION; ..` on a new disk, and `each OUTCOME FAILS ACTION; ..`, which is run for each K from 0 on
 /// up to the first run in which no call failed.
@@ -27,8 +24,7 @@ fn each(alloc: Global, words: Words<'_>) -> Answer {
     let mut out = String::from_str(alloc, "in turn:")?;
     for number in 0..RUNS {
         let said = run(alloc, words.in_run(number))?;
-        write!(out, "\n  {number}: {}", said.as_str())?;
-        if !said.as_str().contains("device") {
+        if !push_run(&mut out, number, said.as_str())? {
             break;
         }
     }

@@ -1,6 +1,7 @@
 //! Rows of `world`: random schedules of events.
-ghost use Rattle.std.specs.Prelude.{◌≡◌, ◌<◌, true};
+ghost use Rattle.std.specs.Prelude.{◌≡◌, ◌<◌, true, IsTrue};
 ghost use Rattle.world.specs.Events.{enabled};
+ghost use Rattle.world.specs.Ranges.{IsSetup};
 
 use crate::history::{Effect, History, Issued};
 use crate::row_fault::{Answer, RowFault};
@@ -62,6 +63,14 @@ fn read_setup(words: &mut Words<'_>) -> Result<Setup, RowFault> {
     })
 }
 
+fn is_setup(setup: Setup) -> bool
+    ensures { IsTrue result → IsSetup setup }
+{
+    (1..=32).contains(&setup.servers)
+        && (1..=64).contains(&setup.clients)
+        && setup.lease <= 1_000_000
+}
+
 /// Runs a schedule, and says whether its history is right.
 fn is_right(
     alloc: Global,
@@ -70,7 +79,7 @@ fn is_right(
     setup: Setup,
     counts: &mut Counts,
 ) -> Result<bool, RowFault> {
-    if setup.servers == 0 || setup.servers > 32 || setup.clients == 0 || setup.clients > 64 {
+    if !is_setup(setup) {
         return Err(RowFault::Refused);
     }
     let mut dice = Dice { state: seed };
