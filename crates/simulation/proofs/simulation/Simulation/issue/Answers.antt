@@ -1,4 +1,4 @@
-use Rattle.std.proofs.Common.{sym, subst, refl, ◌<◌, ◌^◌}
+use Rattle.std.proofs.Common.{sym, subst, refl, ◌<◌, ◌^◌, arith}
 use Rattle.mds_out.specs.Fused.{Fused}
 use Rattle.simulation.specs.Fuses.{seen_by, images_by}
 use Rattle.simulation.specs.Shows.{SimulationV, is_idle}
@@ -47,4 +47,4 @@ returns-clause-ok g c =
     issue_done (seen_by g.D.Disk.seen) (images_by g.D.Disk.images) _ _ c.self.view_is c.args.client _ free.at few c.args.call c.issue.new.self c.in_ok-request.request c.send.new.sent _ c.send.result free.idle c.requires.served c.in_ok-request.ensures.client c.in_ok-request.ensures.ok c.send.ensures
 
 pub index_mut-requires : goal.index_mut-requires
-index_mut-requires g c = seat_below _ _ c.self.view_is c.args.client is_idle refl c.requires.free
+index_mut-requires g c = let low = seat_below _ _ c.self.view_is c.args.client is_idle refl c.requires.free in omega (arith, low)

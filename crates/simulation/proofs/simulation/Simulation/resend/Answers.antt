@@ -1,4 +1,4 @@
-use Rattle.std.proofs.Common.{sym, subst, refl, ◌<◌, ◌^◌}
+use Rattle.std.proofs.Common.{sym, subst, refl, ◌<◌, ◌^◌, arith}
 use Rattle.mds_out.specs.Fused.{Fused}
 use Rattle.simulation.specs.Fuses.{seen_by, images_by}
 use Rattle.simulation.specs.Shows.{SimulationV, is_busy}
@@ -45,4 +45,4 @@ returns-clause-ok g c =
     resend_done (seen_by g.D.Disk.seen) (images_by g.D.Disk.images) _ _ c.self.view_is c.args.client _ open_call.at few open_call.pending c.resend.new.self c.in_ok-request.request c.send.new.sent _ c.send.result open_call.busy short again.1 again.0 c.send.ensures
 
 pub index_mut-requires : goal.index_mut-requires
-index_mut-requires g c = seat_below _ _ c.self.view_is c.args.client is_busy refl c.requires.busy
+index_mut-requires g c = let low = seat_below _ _ c.self.view_is c.args.client is_busy refl c.requires.busy in omega (arith, low)

@@ -1,0 +1,46 @@
+//! Rows of `records`.
+use crate::row_fault::{Answer, RowFault};
+use crate::values::record_text;
+use crate::words::{Words, hex_text, text};
+use records::{RecordFault, read, write};
+use std::alloc::Global;
+
+/// `read BYTES`, and `write BYTES`, which writes the record that was read.
+pub(crate) fn answer(alloc: Global, mut words: Words<'_>) -> Answer {
+    match words.word()? {
+        "read" => read_row(alloc, words),
+        "write" => write_row(alloc, words),
+        _ => Err(RowFault::NotARow),
+    }
+}
+
+/// The record with which the bytes begin, behind its length; or `short`, or `bad` and the place.
+fn read_row(alloc: Global, mut words: Words<'_>) -> Answer {
+    let bytes = words.hex(alloc)?;
+    words.end()?;
+    match read(alloc, bytes.as_slice()) {
+        Ok((item, len)) => {
+            let said = record_text(alloc, &item)?;
+            Ok(format!(in alloc; "{len} bytes: {said}")?)
+        }
+        Err(RecordFault::Short) => text(alloc, "short"),
+        Err(RecordFault::Bad { place }) => Ok(format!(in alloc; "bad {place}")?),
+        Err(RecordFault::OutOfMemory) => Err(RowFault::OutOfMemory),
+    }
+}
+
+/// The bytes that are written for the record with which the bytes begin; behind a byte `09` that was there before.
+fn write_row(alloc: Global, mut words: Words<'_>) -> Answer {
+    let bytes = words.hex(alloc)?;
+    words.end()?;
+    match read(alloc, bytes.as_slice()) {
+        Ok((item, _)) => {
+            let mut out = Vec::new(alloc);
+            out.push(9)?;
+            write(alloc, &item, &mut out)?;
+            hex_text(alloc, out.as_slice())
+        }
+        Err(RecordFault::OutOfMemory) => Err(RowFault::OutOfMemory),
+        Err(_) => Err(RowFault::Refused),
+    }
+}
