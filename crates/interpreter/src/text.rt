@@ -158,7 +158,10 @@ impl fmt::Display for KindText {
 
     fn fmt<W: fmt::Write>(&self, f: &mut fmt::Formatter<W>) -> fmt::Result {
         let Attr {
-            dir, mode, size, ..
+            dir,
+            mode,
+            size,
+            ..
         } = self.0;
         let stamp = StampText(self.0.stamp());
         if dir == 0 {
