@@ -42,9 +42,9 @@ pub some_byte : (item : Record) → IsRecord item → 0 < length (record_spellin
 some_byte (Begins format servers server threshold) is = omega arith
 some_byte Opened is = omega arith
 some_byte (Served client seq part call said) is = omega arith
-some_byte (Begin dir part depth) is = absurd is
+some_byte (Begin dir part depth) is = omega arith
 some_byte (Install dir part depth bitmap sessions rows) is = absurd is
-some_byte (End dir part depth) is = absurd is
+some_byte (End dir part depth) is = omega arith
 
 -- ---- lists of records
 
@@ -115,13 +115,13 @@ call_fits (Remove dir name) change = change.0.1
 call_fits (Setattr dir name mode size stamp) change = change.0.1
 call_fits (Lookup dir name) change = absurd change
 call_fits (Scan dir) change = absurd change
-call_fits (Grab dir name count) change = absurd change
+call_fits (Grab dir name count) change = change.0.1
 call_fits (Load dir rows) change = absurd change
-call_fits (Link dir name id) change = absurd change
-call_fits (Seal dir part epoch) change = absurd change
-call_fits (Unseal dir part epoch) change = absurd change
-call_fits (Kill dir epoch) change = absurd change
-call_fits (Unlink dir name id) change = absurd change
+call_fits (Link dir name id) change = change.0.1
+call_fits (Seal dir part epoch) change = change.0.1
+call_fits (Unseal dir part epoch) change = change.0.1
+call_fits (Kill dir epoch) change = change.0.1
+call_fits (Unlink dir name id) change = change.0.1
 
 pub fits : (item : Record) → IsRecord item → RecordFits item
 fits (Begins format servers server threshold) is = tt

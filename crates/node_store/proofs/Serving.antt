@@ -48,7 +48,15 @@ with_there place (Some attr) = map.get-insert places_total map.empty place attr 
 says : (place : Place) (before : Option Attr) (P : Type 0) (Q : Attr → Type 0) → MatchOption before P Q → MatchOption (map.get (with place before) place) P Q
 says place before P Q holds = subst (λ (o : Option Attr). MatchOption o P Q) (sym (with_there place before)) holds
 
-may_say : (next : ℕ) (call : Call) (before : Option Attr) → IsChange call → MaySay call (said_of call before next)
+-- a change that a node carries out
+abbrev IsCarried : Call → Type 0
+IsCarried (Create dir name) = Unit {0}
+IsCarried (Mkdir dir name) = Unit {0}
+IsCarried (Remove dir name) = Unit {0}
+IsCarried (Setattr dir name mode size stamp) = Unit {0}
+IsCarried call = ⊥
+
+may_say : (next : ℕ) (call : Call) (before : Option Attr) → IsCarried call → MaySay call (said_of call before next)
 may_say next (Create dir name) None change = (with (dir, name) None, says (dir, name) None _ _ refl)
 may_say next (Create dir name) (Some attr) change = (with (dir, name) (Some attr), says (dir, name) (Some attr) _ (λ _. Said Exists ≡ Said Exists) refl)
 may_say next (Mkdir dir name) None change = (with (dir, name) None, says (dir, name) None ((n : ℕ) × (Said (CreatedDir next) ≡ Said (CreatedDir n))) (λ _. Said (CreatedDir next) ≡ Said Exists) (next, refl))
@@ -71,7 +79,7 @@ removed_numbered : (b : Bool) → IsNumbered (cond b Removed IsDir)
 removed_numbered true = tt
 removed_numbered false = tt
 
-numbered_at : (next : ℕ) (call : Call) (before : Option Attr) → IsChange call → IsDirectory next → IsNumbered (said_of call before next)
+numbered_at : (next : ℕ) (call : Call) (before : Option Attr) → IsCarried call → IsDirectory next → IsNumbered (said_of call before next)
 numbered_at next (Create dir name) None change is = tt
 numbered_at next (Create dir name) (Some attr) change is = tt
 numbered_at next (Mkdir dir name) None change is = is
@@ -108,6 +116,22 @@ a_change (Unseal d part epoch) dir name made asked = cc
 a_change (Kill d epoch) dir name made asked = cc
 a_change (Unlink d n id) dir name made asked = cc
 
+-- what asks for a change is carried out
+carried : (call : Call) (dir : ℕ) (name : List ℕ) → asked_of call ≡ ChangeOf dir name → IsCarried call
+carried (Create d n) dir name asked = tt
+carried (Mkdir d n) dir name asked = tt
+carried (Remove d n) dir name asked = tt
+carried (Setattr d n mode size stamp) dir name asked = tt
+carried (Lookup d n) dir name asked = cc
+carried (Scan d) dir name asked = cc
+carried (Grab d n count) dir name asked = cc
+carried (Load d rows) dir name asked = cc
+carried (Link d n id) dir name asked = cc
+carried (Seal d part epoch) dir name asked = cc
+carried (Unseal d part epoch) dir name asked = cc
+carried (Kill d epoch) dir name asked = cc
+carried (Unlink d n id) dir name asked = cc
+
 number_fits : (node : NodeV) → has_numbers node ≡ true → node.server < 32 → node.next < 2 ^ 48
 number_fits node numbers few = let enough = leb-true (node.next + 2 ^ 18) (end_of_numbers node.server) numbers in omega arith
 
@@ -138,6 +162,7 @@ module _ (store : StoreV) (ask : Ask) (now : ℕ) (said : Final) (asked : IsAske
       let may : may_carry store.node dir ask.client ask.seq (part_at store (asked_of ask.call)) ≡ true = and_from _ _ (and_from _ _ zero (and_from _ _ numbers o.0)) o.1.0 in
       let follows = follows_so store ask.client ask.seq (part_at store (asked_of ask.call)) ask.call said dir name is may o.1.1 in
       let change = a_change ask.call dir name asked.made is in
+      let done = carried ask.call dir name is in
       let before = row_in store.rows dir 0 name in
       let in_range : IsDirectory store.node.next = (omega arith, number_fits store.node numbers few) in
       record {
@@ -149,8 +174,8 @@ module _ (store : StoreV) (ask : Ask) (now : ℕ) (said : Final) (asked : IsAske
             fits = asked.fits;
             below = subst (λ (p : ℕ). p < 1024) (sym part) (lit< tt);
             change = change;
-            reply = subst (MaySay ask.call) (sym o.1.1) (may_say store.node.next ask.call before change);
-            numbered = subst IsNumbered (sym o.1.1) (numbered_at store.node.next ask.call before change in_range);
+            reply = subst (MaySay ask.call) (sym o.1.1) (may_say store.node.next ask.call before done);
+            numbered = subst IsNumbered (sym o.1.1) (numbered_at store.node.next ask.call before done in_range);
           },
           tt,
         );

@@ -2,3 +2,4 @@ pub mod Messages
 pub mod Spelling
 pub mod Faults
 pub mod Reading
+pub mod LeastFormats

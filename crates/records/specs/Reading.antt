@@ -1,15 +1,17 @@
 -- Reading from left to right, on lists: what stands at the front and the bytes after it, or the first fault.
-use Rattle.std.specs.Prelude.{ℕ, zero, suc, ◌+◌, ◌-◌, ◌*◌, ◌/◌, ◌^◌, List, [], ◌∷◌, length, take, drop, Result, Ok, Err, nat_lt, nat_le, ◌==◌, ◌&&◌, Bool, if◌then◌else◌, None, Some}
+use Rattle.std.specs.Prelude.{ℕ, zero, suc, ◌+◌, ◌-◌, ◌*◌, ◌/◌, ◌%◌, ◌^◌, List, [], ◌∷◌, length, take, drop, Result, Ok, Err, nat_lt, nat_le, ◌==◌, ◌&&◌, Bool, if◌then◌else◌, None, Some}
 use Rattle.std.specs.List.{list_any}
 use Rattle.mds_base.specs.declared.call.Call.{Call}
-use Rattle.mds_base.specs.declared.call.Call.TheVariants.{Create, Mkdir, Remove, Setattr}
+use Rattle.mds_base.specs.declared.call.Call.TheVariants.{Create, Mkdir, Remove, Setattr, Grab, Link, Seal, Unseal, Kill, Unlink}
 use Rattle.mds_base.specs.declared.reply.Final.{Final}
-use Rattle.mds_base.specs.declared.reply.Final.TheVariants.{Created, CreatedDir, Exists, Removed, Missing, IsDir, Set}
+use Rattle.mds_base.specs.declared.reply.Final.TheVariants.{Created, CreatedDir, Exists, Removed, Missing, IsDir, Set, Ids, Sealed, NotEmpty, Late, Opened, Killed}
 use Rattle.mds_base.specs.Name.{is_name, is_name_byte}
 use Rattle.records.specs.declared.fault.Fault.{Fault}
 use Rattle.records.specs.declared.fault.Fault.TheVariants.{Short, Bad}
+use Rattle.records.specs.declared.kinds.TheConstants as kinds
 use Rattle.records.specs.declared.record.Record.{Record}
-use Rattle.records.specs.declared.record.Record.TheVariants.{Head, Opened, Served}
+use Rattle.records.specs.declared.record.Record.TheVariants as records
+use Rattle.records.specs.declared.record.Record.TheVariants.{Head, Served, Begin, End}
 use Rattle.records.specs.Faults.{◌>>=◌}
 
 -- a byte that passes a test
@@ -56,45 +58,94 @@ name_at bytes = do
   len ← number_at 1 1 255 bytes
   text_at len.0 len.1
 
+-- what follows the size in a setattr of this kind
+unfoldable pub set_after : ℕ → ℕ → List ℕ → ℕ → ℕ → List ℕ → Result (Call × List ℕ) Fault
+set_after kind dir name mode size bytes =
+    if kind == kinds.CALL_SETATTR then Ok (Setattr dir name mode size None, bytes)
+    else (number_at 4 0 (2 ^ 32 - 1) bytes >>= λ owner. number_at 8 0 (2 ^ 64 - 1) owner.1 >>= λ mtime. Ok (Setattr dir name mode size (Some (record { owner = owner.0; mtime = mtime.0 })), mtime.1))
+
 -- what follows the name in a call of this kind
-unfoldable pub call_after : ℕ → ℕ → List ℕ → List ℕ → Result (Call × List ℕ) Fault
-call_after kind dir name bytes =
-    if kind == 1 then Ok (Create dir name, bytes)
-    else if kind == 2 then Ok (Mkdir dir name, bytes)
-    else if kind == 3 then Ok (Remove dir name, bytes)
-    else if kind == 4 then (number_at 2 0 4095 bytes >>= λ mode. number_at 8 0 (2 ^ 64 - 1) mode.1 >>= λ size. Ok (Setattr dir name mode.0 size.0 None, size.1))
-    else number_at 2 0 4095 bytes >>= λ mode. number_at 8 0 (2 ^ 64 - 1) mode.1 >>= λ size. number_at 4 0 (2 ^ 32 - 1) size.1 >>= λ owner. number_at 8 0 (2 ^ 64 - 1) owner.1 >>= λ mtime. Ok (Setattr dir name mode.0 size.0 (Some (record { owner = owner.0; mtime = mtime.0 })), mtime.1)
+unfoldable pub named_after : ℕ → ℕ → List ℕ → List ℕ → Result (Call × List ℕ) Fault
+named_after kind dir name bytes =
+    if kind == kinds.CALL_CREATE then Ok (Create dir name, bytes)
+    else if kind == kinds.CALL_MKDIR then Ok (Mkdir dir name, bytes)
+    else if kind == kinds.CALL_REMOVE then Ok (Remove dir name, bytes)
+    else if kind == kinds.CALL_GRAB then (number_at 4 1 4096 bytes >>= λ count. Ok (Grab dir name count.0, count.1))
+    else if kind == kinds.CALL_LINK then (number_at 8 1 (2 ^ 48 - 1) bytes >>= λ id. Ok (Link dir name id.0, id.1))
+    else if kind == kinds.CALL_UNLINK then (number_at 8 1 (2 ^ 48 - 1) bytes >>= λ id. Ok (Unlink dir name id.0, id.1))
+    else (number_at 2 0 4095 bytes >>= λ mode. number_at 8 0 (2 ^ 64 - 1) mode.1 >>= λ size. set_after kind dir name mode.0 size.0 size.1)
+
+-- what follows the directory in a call of this kind
+unfoldable pub call_after : ℕ → ℕ → List ℕ → Result (Call × List ℕ) Fault
+call_after kind dir bytes =
+    if kind == kinds.CALL_SEAL then (number_at 4 0 1023 bytes >>= λ part. number_at 8 0 (2 ^ 48 - 1) part.1 >>= λ epoch. Ok (Seal dir part.0 epoch.0, epoch.1))
+    else if kind == kinds.CALL_UNSEAL then (number_at 4 0 1023 bytes >>= λ part. number_at 8 0 (2 ^ 48 - 1) part.1 >>= λ epoch. Ok (Unseal dir part.0 epoch.0, epoch.1))
+    else if kind == kinds.CALL_KILL then (number_at 8 0 (2 ^ 48 - 1) bytes >>= λ epoch. Ok (Kill dir epoch.0, epoch.1))
+    else (name_at bytes >>= λ name. named_after kind dir name.0 name.1)
+
+-- the kinds of calls
+abbrev pub call_kinds : List ℕ
+call_kinds = kinds.CALL_CREATE ∷ kinds.CALL_MKDIR ∷ kinds.CALL_REMOVE ∷ kinds.CALL_SETATTR ∷ kinds.CALL_GRAB ∷ kinds.CALL_LINK ∷ kinds.CALL_STAMP ∷ kinds.CALL_SEAL ∷ kinds.CALL_UNSEAL ∷ kinds.CALL_KILL ∷ kinds.CALL_UNLINK ∷ []
 
 unfoldable pub call_at : List ℕ → Result (Call × List ℕ) Fault
 call_at bytes = do
-  kind ← byte_among (1 ∷ 2 ∷ 3 ∷ 4 ∷ 8 ∷ []) bytes
+  kind ← byte_among call_kinds bytes
   dir ← number_at 8 1 (2 ^ 48 - 1) kind.1
-  name ← name_at dir.1
-  call_after kind.0 dir.0 name.0 name.1
+  call_after kind.0 dir.0 dir.1
 
 -- the tags of the finals that a call may get
 abbrev pub tags_of : Call → List ℕ
-tags_of (Create dir name) = 1 ∷ 3 ∷ []
-tags_of (Mkdir dir name) = 2 ∷ 3 ∷ []
-tags_of (Remove dir name) = 4 ∷ 5 ∷ 6 ∷ []
-tags_of (Setattr dir name mode size stamp) = 5 ∷ 7 ∷ []
+tags_of (Create dir name) = kinds.FINAL_CREATED ∷ kinds.FINAL_EXISTS ∷ []
+tags_of (Mkdir dir name) = kinds.FINAL_CREATED_DIR ∷ kinds.FINAL_EXISTS ∷ []
+tags_of (Remove dir name) = kinds.FINAL_REMOVED ∷ kinds.FINAL_MISSING ∷ kinds.FINAL_IS_DIR ∷ []
+tags_of (Setattr dir name mode size stamp) = kinds.FINAL_MISSING ∷ kinds.FINAL_SET ∷ []
+tags_of (Grab dir name count) = kinds.FINAL_IDS ∷ []
+tags_of (Link dir name id) = kinds.FINAL_CREATED_DIR ∷ kinds.FINAL_EXISTS ∷ []
+tags_of (Seal dir part epoch) = kinds.FINAL_SEALED ∷ kinds.FINAL_NOT_EMPTY ∷ kinds.FINAL_LATE ∷ kinds.FINAL_KILLED ∷ []
+tags_of (Unseal dir part epoch) = kinds.FINAL_LATE ∷ kinds.FINAL_OPENED ∷ []
+tags_of (Kill dir epoch) = kinds.FINAL_LATE ∷ kinds.FINAL_KILLED ∷ []
+tags_of (Unlink dir name id) = kinds.FINAL_EXISTS ∷ kinds.FINAL_REMOVED ∷ kinds.FINAL_MISSING ∷ []
 tags_of call = []
+
+-- the range of the number that follows a tag; a link is told its own number
+abbrev pub least_of : Call → ℕ → ℕ
+least_of (Link dir name id) tag = if tag == kinds.FINAL_CREATED_DIR then id else 0
+least_of call tag = if tag == kinds.FINAL_CREATED_DIR then 1 else if tag == kinds.FINAL_IDS then 2 else 0
+
+abbrev pub most_of : Call → ℕ → ℕ
+most_of (Link dir name id) tag = if tag == kinds.FINAL_CREATED_DIR then id else 0
+most_of call tag = if tag == kinds.FINAL_CREATED_DIR then 2 ^ 48 - 1 else if tag == kinds.FINAL_IDS then 2 ^ 45 else 0
 
 abbrev pub final_of : ℕ → ℕ → Final
 final_of tag number =
-    if tag == 1 then Created
-    else if tag == 2 then CreatedDir number
-    else if tag == 3 then Exists
-    else if tag == 4 then Removed
-    else if tag == 5 then Missing
-    else if tag == 6 then IsDir
-    else Set
+    if tag == kinds.FINAL_CREATED then Created
+    else if tag == kinds.FINAL_CREATED_DIR then CreatedDir number
+    else if tag == kinds.FINAL_EXISTS then Exists
+    else if tag == kinds.FINAL_REMOVED then Removed
+    else if tag == kinds.FINAL_MISSING then Missing
+    else if tag == kinds.FINAL_IS_DIR then IsDir
+    else if tag == kinds.FINAL_SET then Set
+    else if tag == kinds.FINAL_IDS then Ids number
+    else if tag == kinds.FINAL_NOT_EMPTY then NotEmpty
+    else if tag == kinds.FINAL_LATE then Late
+    else if tag == kinds.FINAL_OPENED then Opened
+    else Killed
+
+-- the last byte of 16 times an epoch and a depth
+abbrev pub is_low : ℕ → Bool
+is_low b = nat_le (b % 16) 14
+
+-- the epoch and the depth of a seal, in one number
+unfoldable pub sealed_at : List ℕ → Result (Final × List ℕ) Fault
+sealed_at bytes = do
+  high ← number_at 7 0 (2 ^ 44 - 1) bytes
+  low ← byte_where is_low high.1
+  Ok (Sealed (low.0 % 16) (high.0 * 16 + low.0 / 16), low.1)
 
 unfoldable pub final_at : Call → List ℕ → Result (Final × List ℕ) Fault
 final_at call bytes = do
   tag ← byte_among (tags_of call) bytes
-  number ← number_at 8 (if tag.0 == 2 then 1 else 0) (if tag.0 == 2 then 2 ^ 48 - 1 else 0) tag.1
-  Ok (final_of tag.0 number.0, number.1)
+  if tag.0 == kinds.FINAL_SEALED then sealed_at tag.1 else (number_at 8 (least_of call tag.0) (most_of call tag.0) tag.1 >>= λ number. Ok (final_of tag.0 number.0, number.1))
 
 unfoldable pub head_at : List ℕ → Result (Record × List ℕ) Fault
 head_at bytes = do
@@ -113,7 +164,31 @@ served_at bytes = do
   said ← final_at call.0 call.1
   Ok (Served client.0 seq.0 part.0 call.0 said.0, said.1)
 
+-- a depth at which a split of this partition may begin
+abbrev pub is_depth : ℕ → ℕ → Bool
+is_depth part depth = nat_lt depth 10 && nat_lt part (2 ^ depth)
+
+-- the begin or the end of a split
+unfoldable pub split_at : ℕ → List ℕ → Result (Record × List ℕ) Fault
+split_at kind bytes = do
+  dir ← number_at 8 1 (2 ^ 48 - 1) bytes
+  part ← number_at 4 0 511 dir.1
+  depth ← byte_where (is_depth part.0) part.1
+  Ok (if kind == kinds.RECORD_BEGIN then Begin dir.0 part.0 depth.0 else End dir.0 part.0 depth.0, depth.1)
+
+-- the kinds of records
+abbrev pub record_kinds : List ℕ
+record_kinds = kinds.RECORD_HEAD ∷ kinds.RECORD_OPENED ∷ kinds.RECORD_SERVED ∷ kinds.RECORD_BEGIN ∷ kinds.RECORD_END ∷ []
+
+-- what follows the kind of a record
+unfoldable pub record_after : ℕ → List ℕ → Result (Record × List ℕ) Fault
+record_after kind bytes =
+    if kind == kinds.RECORD_HEAD then head_at bytes
+    else if kind == kinds.RECORD_OPENED then Ok (records.Opened, bytes)
+    else if kind == kinds.RECORD_SERVED then served_at bytes
+    else split_at kind bytes
+
 unfoldable pub record_at : List ℕ → Result (Record × List ℕ) Fault
 record_at bytes = do
-  kind ← byte_among (1 ∷ 2 ∷ 3 ∷ []) bytes
-  if kind.0 == 1 then head_at kind.1 else if kind.0 == 2 then Ok (Opened, kind.1) else served_at kind.1
+  kind ← byte_among record_kinds bytes
+  record_after kind.0 kind.1

@@ -12,6 +12,7 @@ use Rattle.mds_base.specs.Entries.{Entries}
 use Rattle.mds_base.specs.PlainRules.{Allows}
 use Rattle.records.specs.declared.fault.RecordFault.{RecordFault}
 use Rattle.records.specs.declared.fault.RecordFault.TheVariants.{OutOfMemory}
+use Rattle.records.specs.declared.kinds.TheConstants as kinds
 use Rattle.records.specs.declared.record.Record.{Record}
 use Rattle.records.specs.declared.record.Record.TheVariants as records
 use Rattle.records.specs.declared.record.Record.TheVariants.{Head, Served, Begin, Install, End}
@@ -35,13 +36,13 @@ IsChange (Remove dir name) = IsDirectory dir × IsTrue (is_name name)
 IsChange (Setattr dir name mode size stamp) = IsDirectory dir × IsTrue (is_name name) × (mode ≤ 4095) × (size < 2 ^ 64) × IsStamp stamp
 IsChange (Lookup dir name) = ⊥
 IsChange (Scan dir) = ⊥
-IsChange (Grab dir name count) = ⊥
+IsChange (Grab dir name count) = IsDirectory dir × IsTrue (is_name name) × (1 ≤ count) × (count ≤ 4096)
 IsChange (Load dir rows) = ⊥
-IsChange (Link dir name id) = ⊥
-IsChange (Seal dir part epoch) = ⊥
-IsChange (Unseal dir part epoch) = ⊥
-IsChange (Kill dir epoch) = ⊥
-IsChange (Unlink dir name id) = ⊥
+IsChange (Link dir name id) = IsDirectory dir × IsTrue (is_name name) × IsDirectory id
+IsChange (Seal dir part epoch) = IsDirectory dir × (part < 1024) × (epoch < 2 ^ 48)
+IsChange (Unseal dir part epoch) = IsDirectory dir × (part < 1024) × (epoch < 2 ^ 48)
+IsChange (Kill dir epoch) = IsDirectory dir × (epoch < 2 ^ 48)
+IsChange (Unlink dir name id) = IsDirectory dir × IsTrue (is_name name) × IsDirectory id
 
 -- a final that the plain rules allow for the call on some map
 abbrev pub MaySay : Call → Final → Type 0
@@ -75,14 +76,20 @@ pub record IsServed (client seq part : ℕ) (call : Call) (said : Final) : Type 
   pub reply : MaySay call said
   pub numbered : IsNumbered said
 
+-- the begin or the end of a split of a partition of this depth
+pub record IsSplit (dir part depth : ℕ) : Type 0 where
+  pub directory : IsDirectory dir
+  pub shallow : depth < 10
+  pub below : part < 2 ^ depth
+
 -- a record that has a spelling
 abbrev pub IsRecord : Record → Type 0
 IsRecord (Head format servers server threshold) = IsHead format servers server threshold
 IsRecord records.Opened = Unit {0}
 IsRecord (Served client seq part call said) = IsServed client seq part call said
-IsRecord (Begin dir part depth) = ⊥
+IsRecord (Begin dir part depth) = IsSplit dir part depth
 IsRecord (Install dir part depth bitmap sessions rows) = ⊥
-IsRecord (End dir part depth) = ⊥
+IsRecord (End dir part depth) = IsSplit dir part depth
 
 -- ---- the spellings
 
@@ -90,31 +97,37 @@ IsRecord (End dir part depth) = ⊥
 abbrev pub name_spelling : List ℕ → List ℕ
 name_spelling name = length name ∷ name
 
--- the kind of a call, its directory, its name, and what belongs to the kind
+-- the kind of a call, its directory, and what belongs to the kind
 abbrev pub call_spelling : Call → List ℕ
-call_spelling (Create dir name) = 1 ∷ (to_be_bytes w64 dir ++ name_spelling name)
-call_spelling (Mkdir dir name) = 2 ∷ (to_be_bytes w64 dir ++ name_spelling name)
-call_spelling (Remove dir name) = 3 ∷ (to_be_bytes w64 dir ++ name_spelling name)
-call_spelling (Setattr dir name mode size None) = 4 ∷ (to_be_bytes w64 dir ++ (name_spelling name ++ (to_be_bytes w16 mode ++ to_be_bytes w64 size)))
-call_spelling (Setattr dir name mode size (Some stamp)) = 8 ∷ (to_be_bytes w64 dir ++ (name_spelling name ++ (to_be_bytes w16 mode ++ (to_be_bytes w64 size ++ (to_be_bytes w32 stamp.owner ++ to_be_bytes w64 stamp.mtime)))))
+call_spelling (Create dir name) = kinds.CALL_CREATE ∷ (to_be_bytes w64 dir ++ name_spelling name)
+call_spelling (Mkdir dir name) = kinds.CALL_MKDIR ∷ (to_be_bytes w64 dir ++ name_spelling name)
+call_spelling (Remove dir name) = kinds.CALL_REMOVE ∷ (to_be_bytes w64 dir ++ name_spelling name)
+call_spelling (Setattr dir name mode size None) = kinds.CALL_SETATTR ∷ (to_be_bytes w64 dir ++ (name_spelling name ++ (to_be_bytes w16 mode ++ to_be_bytes w64 size)))
+call_spelling (Setattr dir name mode size (Some stamp)) = kinds.CALL_STAMP ∷ (to_be_bytes w64 dir ++ (name_spelling name ++ (to_be_bytes w16 mode ++ (to_be_bytes w64 size ++ (to_be_bytes w32 stamp.owner ++ to_be_bytes w64 stamp.mtime)))))
+call_spelling (Grab dir name count) = kinds.CALL_GRAB ∷ (to_be_bytes w64 dir ++ (name_spelling name ++ to_be_bytes w32 count))
+call_spelling (Link dir name id) = kinds.CALL_LINK ∷ (to_be_bytes w64 dir ++ (name_spelling name ++ to_be_bytes w64 id))
+call_spelling (Seal dir part epoch) = kinds.CALL_SEAL ∷ (to_be_bytes w64 dir ++ (to_be_bytes w32 part ++ to_be_bytes w64 epoch))
+call_spelling (Unseal dir part epoch) = kinds.CALL_UNSEAL ∷ (to_be_bytes w64 dir ++ (to_be_bytes w32 part ++ to_be_bytes w64 epoch))
+call_spelling (Kill dir epoch) = kinds.CALL_KILL ∷ (to_be_bytes w64 dir ++ to_be_bytes w64 epoch)
+call_spelling (Unlink dir name id) = kinds.CALL_UNLINK ∷ (to_be_bytes w64 dir ++ (name_spelling name ++ to_be_bytes w64 id))
 call_spelling call = []
 
 abbrev pub tag_of : Final → ℕ
-tag_of Created = 1
-tag_of (CreatedDir number) = 2
-tag_of Exists = 3
-tag_of Removed = 4
-tag_of Missing = 5
-tag_of IsDir = 6
-tag_of Set = 7
-tag_of (Ids first) = 8
-tag_of (Loaded count) = 9
-tag_of Stale = 10
-tag_of (Sealed depth epoch) = 11
-tag_of NotEmpty = 12
-tag_of Late = 13
-tag_of Opened = 14
-tag_of Killed = 15
+tag_of Created = kinds.FINAL_CREATED
+tag_of (CreatedDir number) = kinds.FINAL_CREATED_DIR
+tag_of Exists = kinds.FINAL_EXISTS
+tag_of Removed = kinds.FINAL_REMOVED
+tag_of Missing = kinds.FINAL_MISSING
+tag_of IsDir = kinds.FINAL_IS_DIR
+tag_of Set = kinds.FINAL_SET
+tag_of (Ids first) = kinds.FINAL_IDS
+tag_of (Loaded count) = kinds.FINAL_LOADED
+tag_of Stale = kinds.FINAL_STALE
+tag_of (Sealed depth epoch) = kinds.FINAL_SEALED
+tag_of NotEmpty = kinds.FINAL_NOT_EMPTY
+tag_of Late = kinds.FINAL_LATE
+tag_of Opened = kinds.FINAL_OPENED
+tag_of Killed = kinds.FINAL_KILLED
 
 -- the number of a final, 0 where it has none
 abbrev pub number_of : Final → ℕ
@@ -127,12 +140,18 @@ number_of said = 0
 abbrev pub final_spelling : Final → List ℕ
 final_spelling said = tag_of said ∷ to_be_bytes w64 (number_of said)
 
+-- the directory, the partition and the depth of a split
+abbrev pub split_spelling : ℕ → ℕ → ℕ → List ℕ
+split_spelling dir part depth = to_be_bytes w64 dir ++ (to_be_bytes w32 part ++ depth ∷ [])
+
 -- the kind of a record, and its fields
 abbrev pub record_spelling : Record → List ℕ
-record_spelling (Head format servers server threshold) = 1 ∷ format ∷ (to_be_bytes w32 servers ++ (to_be_bytes w32 server ++ to_be_bytes w32 threshold))
-record_spelling records.Opened = 2 ∷ []
-record_spelling (Served client seq part call said) = 3 ∷ (to_be_bytes w32 client ++ (to_be_bytes w64 seq ++ (to_be_bytes w32 part ++ (call_spelling call ++ final_spelling said))))
-record_spelling item = []
+record_spelling (Head format servers server threshold) = kinds.RECORD_HEAD ∷ format ∷ (to_be_bytes w32 servers ++ (to_be_bytes w32 server ++ to_be_bytes w32 threshold))
+record_spelling records.Opened = kinds.RECORD_OPENED ∷ []
+record_spelling (Served client seq part call said) = kinds.RECORD_SERVED ∷ (to_be_bytes w32 client ++ (to_be_bytes w64 seq ++ (to_be_bytes w32 part ++ (call_spelling call ++ final_spelling said))))
+record_spelling (Begin dir part depth) = kinds.RECORD_BEGIN ∷ split_spelling dir part depth
+record_spelling (End dir part depth) = kinds.RECORD_END ∷ split_spelling dir part depth
+record_spelling (Install dir part depth bitmap sessions rows) = []
 
 -- these bytes spell the record
 abbrev pub Spells : List ℕ → Record → Type 0

@@ -10,6 +10,8 @@
 mod boxed;
 mod fault;
 mod handled;
+mod kinds;
+mod least_format;
 mod msg;
 mod reading;
 mod record;

@@ -2,15 +2,20 @@ ghost use Rattle.std.specs.Prelude.{◌≡◌, ℕ, ◌≤◌, ◌<◌, ◌^◌,
 ghost use Rattle.records.specs.declared.record.Record.{Record};
 ghost use Rattle.records.specs.Faults.{Gives};
 ghost use Rattle.records.specs.Spelling.{Spells, IsBegun, IsBadAt, GivesOrMemory};
-ghost use Rattle.records.specs.Reading.{byte_among, number_at, from_foreign, text_at, name_at, call_after, call_at, tags_of, final_of, final_at, head_at, served_at, record_at};
+ghost use Rattle.records.specs.Reading.{byte_where, byte_among, number_at, from_foreign, text_at, name_at, set_after, named_after, call_after, call_at, tags_of, least_of, most_of, final_of, is_low, sealed_at, final_at, head_at, served_at, is_depth, split_at, record_at};
 
 use crate::fault::{Fault, RecordFault, Stop};
+use crate::kinds::{
+    CALL_CREATE, CALL_GRAB, CALL_KILL, CALL_LINK, CALL_MKDIR, CALL_REMOVE, CALL_SEAL, CALL_SETATTR,
+    CALL_STAMP, CALL_UNLINK, CALL_UNSEAL, FINAL_CREATED, FINAL_CREATED_DIR, FINAL_EXISTS,
+    FINAL_IDS, FINAL_IS_DIR, FINAL_KILLED, FINAL_LATE, FINAL_MISSING, FINAL_NOT_EMPTY,
+    FINAL_OPENED, FINAL_REMOVED, FINAL_SEALED, FINAL_SET, RECORD_BEGIN, RECORD_END, RECORD_HEAD,
+    RECORD_OPENED, RECORD_SERVED,
+};
 use crate::record::Record;
+use mds_base::limits::{DIRECTORIES, EPOCHS};
 use mds_base::{Call, Final, Name, NameFault, Stamp};
 use std::alloc::Global;
-
-/// Directory numbers are below this.
-const DIRECTORIES: u64 = 1 << 48;
 
 #[tactic(auto, unfolding(crate::specs::Reading::byte_among, crate::specs::Reading::byte_where))]
 fn byte<'a>(bytes: &'a [u8], allowed: &[u8]) -> Result<(u8, &'a [u8]), Stop>
@@ -86,70 +91,152 @@ fn foreign(bytes: &[u8]) -> Option<usize>
     None
 }
 
-#[tactic(auto, unfolding(crate::specs::Reading::call_after))]
-fn call_of(kind: u8, dir: u64, name: Name, bytes: &[u8]) -> Result<(Call, &[u8]), Stop>
-    ensures { Gives (λ x. (x.0, x.1.now)) result (call_after kind dir name bytes.now) }
+#[tactic(auto, unfolding(crate::specs::Reading::set_after))]
+fn set_of(
+    kind: u8,
+    dir: u64,
+    name: Name,
+    mode: u32,
+    size: u64,
+    bytes: &[u8],
+) -> Result<(Call, &[u8]), Stop>
+    ensures { Gives (λ x. (x.0, x.1.now)) result (set_after kind dir name mode size bytes.now) }
+{
+    let (stamp, rest) = match kind {
+        CALL_SETATTR => (None, bytes),
+        _ => {
+            let (owner, rest) = number(bytes, 4, 0, u32::MAX as u64)?;
+            let (mtime, rest) = number(rest, 8, 0, u64::MAX)?;
+            let owner = owner as u32;
+            (Some(Stamp { owner, mtime }), rest)
+        }
+    };
+    let call = Call::Setattr {
+        dir,
+        name,
+        mode,
+        size,
+        stamp,
+    };
+    Ok((call, rest))
+}
+
+#[tactic(auto, unfolding(crate::specs::Reading::named_after))]
+fn named(kind: u8, dir: u64, name: Name, bytes: &[u8]) -> Result<(Call, &[u8]), Stop>
+    ensures { Gives (λ x. (x.0, x.1.now)) result (named_after kind dir name bytes.now) }
 {
     match kind {
-        1 => Ok((Call::Create { dir, name }, bytes)),
-        2 => Ok((Call::Mkdir { dir, name }, bytes)),
-        3 => Ok((Call::Remove { dir, name }, bytes)),
-        4 => {
-            let (mode, rest) = number(bytes, 2, 0, 4095)?;
-            let (size, rest) = number(rest, 8, 0, u64::MAX)?;
-            Ok((
-                Call::Setattr {
-                    dir,
-                    name,
-                    mode: mode as u32,
-                    size,
-                    stamp: None,
-                },
-                rest,
-            ))
+        CALL_CREATE => Ok((Call::Create { dir, name }, bytes)),
+        CALL_MKDIR => Ok((Call::Mkdir { dir, name }, bytes)),
+        CALL_REMOVE => Ok((Call::Remove { dir, name }, bytes)),
+        CALL_GRAB => {
+            let (count, rest) = number(bytes, 4, 1, 4096)?;
+            let count = count as u32;
+            Ok((Call::Grab { dir, name, count }, rest))
+        }
+        CALL_LINK => {
+            let (id, rest) = number(bytes, 8, 1, DIRECTORIES - 1)?;
+            Ok((Call::Link { dir, name, id }, rest))
+        }
+        CALL_UNLINK => {
+            let (id, rest) = number(bytes, 8, 1, DIRECTORIES - 1)?;
+            Ok((Call::Unlink { dir, name, id }, rest))
         }
         _ => {
             let (mode, rest) = number(bytes, 2, 0, 4095)?;
             let (size, rest) = number(rest, 8, 0, u64::MAX)?;
-            let (owner, rest) = number(rest, 4, 0, u32::MAX as u64)?;
-            let (mtime, rest) = number(rest, 8, 0, u64::MAX)?;
-            let stamp = Stamp {
-                owner: owner as u32,
-                mtime,
-            };
-            Ok((
-                Call::Setattr {
-                    dir,
-                    name,
-                    mode: mode as u32,
-                    size,
-                    stamp: Some(stamp),
-                },
-                rest,
-            ))
+            set_of(kind, dir, name, mode as u32, size, rest)
         }
     }
 }
+
+#[tactic(auto, unfolding(crate::specs::Reading::call_after))]
+fn call_of(alloc: Global, kind: u8, dir: u64, bytes: &[u8]) -> Result<(Call, &[u8]), Stop>
+    ensures { Gives (λ x. (x.0, x.1.now)) result (call_after kind dir bytes.now) }
+{
+    match kind {
+        CALL_SEAL => {
+            let (part, rest) = number(bytes, 4, 0, 1023)?;
+            let (epoch, rest) = number(rest, 8, 0, EPOCHS - 1)?;
+            let part = part as u32;
+            Ok((Call::Seal { dir, part, epoch }, rest))
+        }
+        CALL_UNSEAL => {
+            let (part, rest) = number(bytes, 4, 0, 1023)?;
+            let (epoch, rest) = number(rest, 8, 0, EPOCHS - 1)?;
+            let part = part as u32;
+            Ok((Call::Unseal { dir, part, epoch }, rest))
+        }
+        CALL_KILL => {
+            let (epoch, rest) = number(bytes, 8, 0, EPOCHS - 1)?;
+            Ok((Call::Kill { dir, epoch }, rest))
+        }
+        _ => {
+            let (name, rest) = name(alloc, bytes)?;
+            named(kind, dir, name, rest)
+        }
+    }
+}
+
+const CALL_KINDS: [u8; 11] = [
+    CALL_CREATE,
+    CALL_MKDIR,
+    CALL_REMOVE,
+    CALL_SETATTR,
+    CALL_GRAB,
+    CALL_LINK,
+    CALL_STAMP,
+    CALL_SEAL,
+    CALL_UNSEAL,
+    CALL_KILL,
+    CALL_UNLINK,
+];
 
 #[tactic(auto, unfolding(crate::specs::Reading::call_at))]
 fn call(alloc: Global, bytes: &[u8]) -> Result<(Call, &[u8]), Stop>
     ensures { Gives (λ x. (x.0, x.1.now)) result (call_at bytes.now) }
 {
-    let (kind, rest) = byte(bytes, &[1, 2, 3, 4, 8])?;
+    let (kind, rest) = byte(bytes, &CALL_KINDS)?;
     let (dir, rest) = number(rest, 8, 1, DIRECTORIES - 1)?;
-    let (name, rest) = name(alloc, rest)?;
-    call_of(kind, dir, name, rest)
+    call_of(alloc, kind, dir, rest)
 }
 
 fn tags(call: &Call) -> &'static [u8]
     ensures { result.now ≡ tags_of call.now }
 {
     match call {
-        Call::Create { .. } => &[1, 3],
-        Call::Mkdir { .. } => &[2, 3],
-        Call::Remove { .. } => &[4, 5, 6],
-        Call::Setattr { .. } => &[5, 7],
-        _ => &[],
+        Call::Create { .. } => &[FINAL_CREATED, FINAL_EXISTS],
+        Call::Mkdir { .. } => &[FINAL_CREATED_DIR, FINAL_EXISTS],
+        Call::Remove { .. } => &[FINAL_REMOVED, FINAL_MISSING, FINAL_IS_DIR],
+        Call::Setattr { .. } => &[FINAL_MISSING, FINAL_SET],
+        Call::Grab { .. } => &[FINAL_IDS],
+        Call::Link { .. } => &[FINAL_CREATED_DIR, FINAL_EXISTS],
+        Call::Seal { .. } => &[FINAL_SEALED, FINAL_NOT_EMPTY, FINAL_LATE, FINAL_KILLED],
+        Call::Unseal { .. } => &[FINAL_LATE, FINAL_OPENED],
+        Call::Kill { .. } => &[FINAL_LATE, FINAL_KILLED],
+        Call::Unlink { .. } => &[FINAL_EXISTS, FINAL_REMOVED, FINAL_MISSING],
+        Call::Lookup { .. } => &[],
+        Call::Scan { .. } => &[],
+        Call::Load { .. } => &[],
+    }
+}
+
+// The range of the number that follows a tag.
+fn range(call: &Call, tag: u8) -> (u64, u64)
+    ensures least { result.0 ≡ least_of call.now tag }
+    ensures most { result.1 ≡ most_of call.now tag }
+    ensures ordered { result.0 ≤ result.1 }
+{
+    match call {
+        Call::Link { id, .. } => match tag {
+            FINAL_CREATED_DIR => (*id, *id),
+            _ => (0, 0),
+        },
+        _ => match tag {
+            FINAL_CREATED_DIR => (1, DIRECTORIES - 1),
+            FINAL_IDS => (2, 1 << 45),
+            _ => (0, 0),
+        },
     }
 }
 
@@ -157,14 +244,46 @@ fn final_with(tag: u8, number: u64) -> Final
     ensures { result ≡ final_of tag number }
 {
     match tag {
-        1 => Final::Created,
-        2 => Final::CreatedDir(number),
-        3 => Final::Exists,
-        4 => Final::Removed,
-        5 => Final::Missing,
-        6 => Final::IsDir,
-        _ => Final::Set,
+        FINAL_CREATED => Final::Created,
+        FINAL_CREATED_DIR => Final::CreatedDir(number),
+        FINAL_EXISTS => Final::Exists,
+        FINAL_REMOVED => Final::Removed,
+        FINAL_MISSING => Final::Missing,
+        FINAL_IS_DIR => Final::IsDir,
+        FINAL_SET => Final::Set,
+        FINAL_IDS => Final::Ids(number),
+        FINAL_NOT_EMPTY => Final::NotEmpty,
+        FINAL_LATE => Final::Late,
+        FINAL_OPENED => Final::Opened,
+        _ => Final::Killed,
     }
+}
+
+#[tactic(auto, unfolding(crate::specs::Reading::byte_where))]
+fn low(bytes: &[u8]) -> Result<(u8, &[u8]), Stop>
+    ensures { Gives (λ x. (x.0, x.1.now)) result (byte_where is_low bytes.now) }
+{
+    match bytes {
+        [] => Err(Stop::Fault(Fault::Short)),
+        [first, rest @ ..] => {
+            if *first % 16 <= 14 {
+                Ok((*first, rest))
+            } else {
+                Err(Stop::Fault(Fault::Bad(bytes.len())))
+            }
+        }
+    }
+}
+
+#[tactic(auto, unfolding(crate::specs::Reading::sealed_at))]
+fn sealed(bytes: &[u8]) -> Result<(Final, &[u8]), Stop>
+    ensures { Gives (λ x. (x.0, x.1.now)) result (sealed_at bytes.now) }
+{
+    let (high, rest) = number(bytes, 7, 0, EPOCHS / 16 - 1)?;
+    let (low, rest) = low(rest)?;
+    let depth = (low % 16) as u32;
+    let epoch = high * 16 + (low / 16) as u64;
+    Ok((Final::Sealed { depth, epoch }, rest))
 }
 
 #[tactic(auto, unfolding(crate::specs::Reading::final_at))]
@@ -172,11 +291,10 @@ fn final_reply<'a>(call: &Call, bytes: &'a [u8]) -> Result<(Final, &'a [u8]), St
     ensures { Gives (λ x. (x.0, x.1.now)) result (final_at call.now bytes.now) }
 {
     let (tag, rest) = byte(bytes, tags(call))?;
-    let (least, most) = if tag == 2 {
-        (1, DIRECTORIES - 1)
-    } else {
-        (0, 0)
-    };
+    if tag == FINAL_SEALED {
+        return sealed(rest);
+    }
+    let (least, most) = range(call, tag);
     let (number, rest) = number(rest, 8, least, most)?;
     Ok((final_with(tag, number), rest))
 }
@@ -221,15 +339,56 @@ fn served(alloc: Global, bytes: &[u8]) -> Result<(Record, &[u8]), Stop>
     ))
 }
 
-#[tactic(auto, unfolding(crate::specs::Reading::record_at))]
+#[tactic(auto, unfolding(crate::specs::Reading::byte_where))]
+fn depth(part: u64, bytes: &[u8]) -> Result<(u8, &[u8]), Stop>
+    ensures { Gives (λ x. (x.0, x.1.now)) result (byte_where (is_depth part) bytes.now) }
+{
+    match bytes {
+        [] => Err(Stop::Fault(Fault::Short)),
+        [first, rest @ ..] => {
+            if *first < 10 && part < 1 << *first {
+                Ok((*first, rest))
+            } else {
+                Err(Stop::Fault(Fault::Bad(bytes.len())))
+            }
+        }
+    }
+}
+
+#[tactic(auto, unfolding(crate::specs::Reading::split_at))]
+fn split(kind: u8, bytes: &[u8]) -> Result<(Record, &[u8]), Stop>
+    ensures { Gives (λ x. (x.0, x.1.now)) result (split_at kind bytes.now) }
+{
+    let (dir, rest) = number(bytes, 8, 1, DIRECTORIES - 1)?;
+    let (part, rest) = number(rest, 4, 0, 511)?;
+    let (depth, rest) = depth(part, rest)?;
+    let part = part as u32;
+    let depth = depth as u32;
+    let item = match kind {
+        RECORD_BEGIN => Record::Begin { dir, part, depth },
+        _ => Record::End { dir, part, depth },
+    };
+    Ok((item, rest))
+}
+
+const RECORD_KINDS: [u8; 5] = [
+    RECORD_HEAD,
+    RECORD_OPENED,
+    RECORD_SERVED,
+    RECORD_BEGIN,
+    RECORD_END,
+];
+
+#[tactic(auto, unfolding(crate::specs::Reading::record_at, crate::specs::Reading::record_after))]
 fn record(alloc: Global, bytes: &[u8]) -> Result<(Record, &[u8]), Stop>
     ensures { Gives (λ x. (x.0, x.1.now)) result (record_at bytes.now) }
 {
-    let (kind, rest) = byte(bytes, &[1, 2, 3])?;
+    let (kind, rest) = byte(bytes, &RECORD_KINDS)?;
     match kind {
-        1 => head(rest),
-        2 => Ok((Record::Opened, rest)),
-        _ => served(alloc, rest),
+        RECORD_HEAD => head(rest),
+        RECORD_OPENED => Ok((Record::Opened, rest)),
+        RECORD_SERVED => served(alloc, rest),
+        _ => split(kind, rest),
     }
 }
 

@@ -1,4 +1,6 @@
 ghost use Rattle.std.specs.Prelude.{◌≡◌, ◌++◌, ◌∷◌, [], length, IfOk, OnOk, OnErr};
+ghost use Rattle.std.specs.List.{slice_get};
+ghost use Rattle.std.specs.Option.{option_copied};
 
 use crate::boxed::BoxedBitmap;
 use mds_base::{Call, Final, RowList, SessionList};
@@ -182,6 +184,13 @@ impl RecordList {
         ensures { result ≡ length self.now }
     {
         self.records.len()
+    }
+
+    /// The record at a place, counted from 0.
+    pub fn get(&self, place: usize) -> Option<&Record>
+        ensures { option_copied result ≡ slice_get self.now place }
+    {
+        self.records.get(place)
     }
 
     /// The records, in their order.

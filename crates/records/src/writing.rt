@@ -1,8 +1,16 @@
 ghost use Rattle.std.specs.Prelude.{◌≡◌, ◌++◌, ◌∷◌, OnOk, OnErr};
 ghost use Rattle.std.specs.Int.{w16, w32, w64, to_be_bytes};
 ghost use Rattle.mds_base.specs.declared.call.Call.TheVariants.{Setattr};
-ghost use Rattle.records.specs.Spelling.{IsChange, IsNumbered, IsRecord, name_spelling, call_spelling, tag_of, number_of, final_spelling, record_spelling};
+ghost use Rattle.records.specs.declared.kinds.TheConstants.{CALL_KILL};
+ghost use Rattle.records.specs.Spelling.{IsChange, IsNumbered, IsRecord, name_spelling, call_spelling, tag_of, number_of, final_spelling, split_spelling, record_spelling};
 
+use crate::kinds::{
+    CALL_CREATE, CALL_GRAB, CALL_KILL, CALL_LINK, CALL_MKDIR, CALL_REMOVE, CALL_SEAL, CALL_SETATTR,
+    CALL_STAMP, CALL_UNLINK, CALL_UNSEAL, FINAL_CREATED, FINAL_CREATED_DIR, FINAL_EXISTS,
+    FINAL_IDS, FINAL_IS_DIR, FINAL_KILLED, FINAL_LATE, FINAL_LOADED, FINAL_MISSING,
+    FINAL_NOT_EMPTY, FINAL_OPENED, FINAL_REMOVED, FINAL_SEALED, FINAL_SET, FINAL_STALE,
+    RECORD_BEGIN, RECORD_END, RECORD_HEAD, RECORD_OPENED, RECORD_SERVED,
+};
 use crate::record::Record;
 use byteorder::{BigEndian, ByteOrder};
 use mds_base::{Call, Final, Name, Stamp};
@@ -49,6 +57,25 @@ fn put_start(out: &mut Vec<u8>, kind: u8, dir: u64, name: &Name) -> Result<(), A
     put_name(out, name)
 }
 
+// A call that seals a partition or takes a seal off.
+fn put_seal(out: &mut Vec<u8>, kind: u8, dir: u64, part: u32, epoch: u64) -> Result<(), AllocError>
+    ensures { OnOk result (out.new.items ≡ out.old.items ++ kind ∷ (to_be_bytes w64 dir ++ (to_be_bytes w32 part ++ to_be_bytes w64 epoch))) }
+{
+    out.push(kind)?;
+    put_u64(out, dir)?;
+    put_u32(out, part)?;
+    put_u64(out, epoch)
+}
+
+// A call that kills a directory.
+fn put_kill(out: &mut Vec<u8>, dir: u64, epoch: u64) -> Result<(), AllocError>
+    ensures { OnOk result (out.new.items ≡ out.old.items ++ CALL_KILL ∷ (to_be_bytes w64 dir ++ to_be_bytes w64 epoch)) }
+{
+    out.push(CALL_KILL)?;
+    put_u64(out, dir)?;
+    put_u64(out, epoch)
+}
+
 // A call that sets attributes.
 fn put_set(
     out: &mut Vec<u8>,
@@ -62,12 +89,12 @@ fn put_set(
 {
     match stamp {
         None => {
-            put_start(out, 4, dir, name)?;
+            put_start(out, CALL_SETATTR, dir, name)?;
             put_u16(out, mode)?;
             put_u64(out, size)
         }
         Some(stamp) => {
-            put_start(out, 8, dir, name)?;
+            put_start(out, CALL_STAMP, dir, name)?;
             put_u16(out, mode)?;
             put_stamped(out, size, stamp.owner, stamp.mtime)
         }
@@ -88,9 +115,24 @@ fn put_call(out: &mut Vec<u8>, call: &Call) -> Result<(), AllocError>
     ensures { OnOk result (out.new.items ≡ out.old.items ++ call_spelling call.now) }
 {
     match call {
-        Call::Create { dir, name } => put_start(out, 1, *dir, name),
-        Call::Mkdir { dir, name } => put_start(out, 2, *dir, name),
-        Call::Remove { dir, name } => put_start(out, 3, *dir, name),
+        Call::Create { dir, name } => put_start(out, CALL_CREATE, *dir, name),
+        Call::Mkdir { dir, name } => put_start(out, CALL_MKDIR, *dir, name),
+        Call::Remove { dir, name } => put_start(out, CALL_REMOVE, *dir, name),
+        Call::Grab { dir, name, count } => {
+            put_start(out, CALL_GRAB, *dir, name)?;
+            put_u32(out, *count)
+        }
+        Call::Link { dir, name, id } => {
+            put_start(out, CALL_LINK, *dir, name)?;
+            put_u64(out, *id)
+        }
+        Call::Seal { dir, part, epoch } => put_seal(out, CALL_SEAL, *dir, *part, *epoch),
+        Call::Unseal { dir, part, epoch } => put_seal(out, CALL_UNSEAL, *dir, *part, *epoch),
+        Call::Kill { dir, epoch } => put_kill(out, *dir, *epoch),
+        Call::Unlink { dir, name, id } => {
+            put_start(out, CALL_UNLINK, *dir, name)?;
+            put_u64(out, *id)
+        }
         Call::Setattr {
             dir,
             name,
@@ -98,7 +140,9 @@ fn put_call(out: &mut Vec<u8>, call: &Call) -> Result<(), AllocError>
             size,
             stamp,
         } => put_set(out, *dir, name, *mode as u16, *size, stamp),
-        _ => Ok(()),
+        Call::Lookup { .. } => Ok(()),
+        Call::Scan { .. } => Ok(()),
+        Call::Load { .. } => Ok(()),
     }
 }
 
@@ -106,21 +150,21 @@ fn tag(said: &Final) -> u8
     ensures { result ≡ tag_of said.now }
 {
     match said {
-        Final::Created => 1,
-        Final::CreatedDir(_) => 2,
-        Final::Exists => 3,
-        Final::Removed => 4,
-        Final::Missing => 5,
-        Final::IsDir => 6,
-        Final::Set => 7,
-        Final::Ids(_) => 8,
-        Final::Loaded(_) => 9,
-        Final::Stale => 10,
-        Final::Sealed { .. } => 11,
-        Final::NotEmpty => 12,
-        Final::Late => 13,
-        Final::Opened => 14,
-        Final::Killed => 15,
+        Final::Created => FINAL_CREATED,
+        Final::CreatedDir(_) => FINAL_CREATED_DIR,
+        Final::Exists => FINAL_EXISTS,
+        Final::Removed => FINAL_REMOVED,
+        Final::Missing => FINAL_MISSING,
+        Final::IsDir => FINAL_IS_DIR,
+        Final::Set => FINAL_SET,
+        Final::Ids(_) => FINAL_IDS,
+        Final::Loaded(_) => FINAL_LOADED,
+        Final::Stale => FINAL_STALE,
+        Final::Sealed { .. } => FINAL_SEALED,
+        Final::NotEmpty => FINAL_NOT_EMPTY,
+        Final::Late => FINAL_LATE,
+        Final::Opened => FINAL_OPENED,
+        Final::Killed => FINAL_KILLED,
     }
 }
 
@@ -163,6 +207,17 @@ fn put_answered(out: &mut Vec<u8>, call: &Call, said: &Final) -> Result<(), Allo
     put_final(out, said)
 }
 
+// The kind of a split's begin or end, its directory, its partition and its depth.
+fn put_split(out: &mut Vec<u8>, kind: u8, dir: u64, part: u32, depth: u8) -> Result<(), AllocError>
+    ensures { OnOk result (out.new.items ≡ out.old.items ++ kind ∷ split_spelling dir part depth) }
+{
+    out.push(kind)?;
+    put_u64(out, dir)?;
+    put_u32(out, part)?;
+    out.push(depth)?;
+    Ok(())
+}
+
 fn put_record(out: &mut Vec<u8>, item: &Record) -> Result<(), AllocError>
     requires { IsRecord item.now }
     ensures { OnOk result (out.new.items ≡ out.old.items ++ record_spelling item.now) }
@@ -174,14 +229,14 @@ fn put_record(out: &mut Vec<u8>, item: &Record) -> Result<(), AllocError>
             server,
             threshold,
         } => {
-            out.push(1)?;
+            out.push(RECORD_HEAD)?;
             out.push(*format)?;
             put_u32(out, *servers)?;
             put_u32(out, *server)?;
             put_u32(out, *threshold)
         }
         Record::Opened => {
-            out.push(2)?;
+            out.push(RECORD_OPENED)?;
             Ok(())
         }
         Record::Served {
@@ -191,11 +246,19 @@ fn put_record(out: &mut Vec<u8>, item: &Record) -> Result<(), AllocError>
             call,
             said,
         } => {
-            out.push(3)?;
+            out.push(RECORD_SERVED)?;
             put_numbers(out, *client, *seq, *part)?;
             put_answered(out, call, said)
         }
-        _ => Ok(()),
+        Record::Begin { dir, part, depth } => put_split(
+            out,
+            RECORD_BEGIN,
+            *dir,
+            *part,
+            *depth as u8,
+        ),
+        Record::End { dir, part, depth } => put_split(out, RECORD_END, *dir, *part, *depth as u8),
+        Record::Install { .. } => Ok(()),
     }
 }
 
