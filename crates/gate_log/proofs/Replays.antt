@@ -1,5 +1,5 @@
 -- The body at a gate of a log, by the bytes that were read there.
-use Rattle.std.proofs.Common.{◌≡◌, ℕ, ◌+◌, ◌<◌, ◌≤◌, ◌^◌, List, [], ◌∷◌, ◌++◌, length, take, drop, Option, None, Some, Result, Ok, Err, OnOk, is_err, false, refl, sym, ◌∙◌, ap, subst, arith, append_assoc, length-append}
+use Rattle.std.proofs.Common.{◌≡◌, ℕ, ◌+◌, ◌<◌, ◌≤◌, ◌^◌, List, [], ◌∷◌, ◌++◌, length, take, drop, Option, None, Some, refl, sym, ◌∙◌, ap, subst, arith, append_assoc, length-append}
 use Rattle.std.proofs.lemmas.List.{take_at, drop_at, drop-drop, append-nil, get_or_at}
 use Rattle.std.proofs.lemmas.Nat.{from_be_bytes-to_be_bytes_4}
 use Rattle.std.specs.Int.{to_be_bytes, from_be_bytes, w32}
@@ -105,10 +105,6 @@ ended_bytes log at bytes into before (body ∷ after) gate past = omega (arith, 
 pub ended : (seen : Option (List ℕ)) (log : LogState) (at : ℕ) (into : List ℕ) (before after : List (List ℕ)) → OnTold seen (IsGateAt log at before after) → log.length ≤ at + 1 → OnTold seen (IsReplayed log before after None into)
 ended None log at into before after gate past = tt
 ended (Some bytes) log at into before after gate past = ended_bytes log at bytes into before after gate past
-
-pub ok_from : {T E P : Type 0} (r : Result T E) → OnOk r P → is_err r ≡ false → P
-ok_from (Ok x) p not_err = p
-ok_from (Err e) p not_err = cc
 
 -- ---- gates of a log
 

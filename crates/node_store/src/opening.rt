@@ -231,7 +231,7 @@ fn piece(alloc: Global, item: &Record) -> Result<Piece, AllocError>
     requires { IsRecord item.now }
     ensures { IfOk result (λ piece. piece ≡ record_spelling item.now) }
 {
-    let mut body = Vec::new(alloc);
+    let mut body = Piece::begin(alloc)?;
     write(alloc, item, &mut body)?;
-    Piece::of(alloc, body.as_slice())
+    Piece::end(body)
 }

@@ -26,20 +26,19 @@ use std::alloc::{AllocError, Global};
 /// A log is no longer than this before an append.
 pub(crate) const LONGEST: u64 = 1 << 62;
 
-// Records as the bytes of one body. A body is shorter than 2^31 bytes: more is want of memory.
-fn spelled(alloc: Global, items: &[Record]) -> Result<Vec<u8>, AllocError>
+// Records as one body. A body is shorter than 2^31 bytes: more is want of memory.
+fn spelled(alloc: Global, items: &[Record]) -> Result<Piece, AllocError>
     requires { AllByRecursion IsRecord items.now }
-    ensures spelled { IfOk result (λ body. body.items ≡ flat_map record_spelling items.now) }
-    ensures short { IfOk result (λ body. length body.items < 2 ^ 31) }
+    ensures { IfOk result (λ piece. piece ≡ flat_map record_spelling items.now) }
 {
-    let mut body = Vec::new(alloc);
+    let mut body = Piece::begin(alloc)?;
     for item in items {
         write(alloc, item, &mut body)?;
     }
-    if body.len() >= 1 << 31 {
+    if body.len() >= Piece::FRONT + (1 << 31) {
         return Err(AllocError);
     }
-    Ok(body)
+    Piece::end(body)
 }
 
 // The body of these records, None where there are none.
@@ -50,8 +49,7 @@ fn piece_of(alloc: Global, items: &RecordList) -> Result<Option<Piece>, AllocErr
     if items.records().is_empty() {
         return Ok(None);
     }
-    let body = spelled(alloc, items.records())?;
-    let piece = Piece::of(alloc, body.as_slice())?;
+    let piece = spelled(alloc, items.records())?;
     Ok(Some(piece))
 }
 
