@@ -1,9 +1,9 @@
 -- Runs of device calls, joined: for a caller that makes several calls one after another.
-use Rattle.std.proofs.Common.{◌≡◌, ◌⊎◌, inl, inr, ⊎_elim, ℕ, ◌≤◌, Option, Some, None, Result, Ok, Err, refl, ◌∙◌, arith}
+use Rattle.std.proofs.Common.{◌≡◌, inl, inr, ⊎_elim, ℕ, Option, Some, None, Result, Ok, Err, refl, ◌∙◌, arith}
 use Rattle.mds_out.specs.declared.disk.DiskFault.{DiskFault}
 use Rattle.mds_out.specs.declared.disk.DiskFault.TheVariants.{Device, OutOfMemory}
 use Rattle.mds_out.specs.Known.{OnTold}
-use Rattle.mds_out.specs.Disk.{Image, Contents, Lengths, IsUnchanged, AreSame, Elapses, HasDiskCause, IsReading, IsChanging}
+use Rattle.mds_out.specs.Disk.{Image, Contents, Lengths, IsUnchanged, HasDiskCause, IsReading, IsChanging}
 
 -- a refusal is the same whatever the call would have answered
 abbrev refusal : (T : Type 0) → DiskFault → Result T DiskFault

@@ -2,10 +2,11 @@
 use Rattle.std.proofs.Common.{◌≡◌, ◌∙◌, sym, ap, refl, ℕ, zero, suc, ◌+◌, ◌-◌, ◌<◌, ◌≤◌, Bool, List, [], ◌∷◌, ◌++◌, length, length-append, map, take, drop, get_or, All, arith}
 use Rattle.std.specs.List.{AllByRecursion}
 use Rattle.std.proofs.lemmas.List.Sums.{fold_more}
-use Rattle.std.proofs.lemmas.List.{get_or-map, length-drop, length-map, map-append, take-append-le, take-map, take_all, drop-append-le, drop_all}
+use Rattle.std.proofs.lemmas.List.{drop_more, get_or-map, length-drop, length-map, map-append, take-append-le, take-map, take_all, drop-append-le, drop_all}
 use Rattle.mds_out.specs.Change.{Change, Write, Cut, changed, redone, change_end}
 use Rattle.mds_out.specs.Content.{replayed}
 use Rattle.mds_out.specs.Past.{Act, Changed}
+use Rattle.mds_out.specs.Undo.{unwound}
 use Rattle.mds_out.specs.declared.acts.Kept.{Kept}
 use Rattle.mds_out.specs.declared.acts.Kept.TheVariants as kept
 use Rattle.mds_out.specs.declared.changes.KeptChange.{KeptChange}
@@ -72,7 +73,7 @@ change_at : (written : List ℕ) (ks : List KeptChange) (changes : List Change) 
     → get_or changes i e ≡ change_in written (get_or ks i d)
 change_at written ks changes i d e is here = ap (λ l. get_or l i e) (sym is) ∙ get_or-map (change_in written) ks i d e here
 
-count_of : (written : List ℕ) (ks : List KeptChange) (changes : List Change) → changes_in written ks ≡ changes → length changes ≡ length ks
+pub count_of : (written : List ℕ) (ks : List KeptChange) (changes : List Change) → changes_in written ks ≡ changes → length changes ≡ length ks
 count_of written ks changes is = ap length (sym is) ∙ length-map ks (change_in written)
 
 -- it ends within what all end within
@@ -89,6 +90,13 @@ pub redone_more : (spoil : Bool) (bytes written : List ℕ) (ks : List KeptChang
 redone_more spoil bytes written ks changes i d is here =
     fold_more (λ now step. changed now (redone spoil step)) bytes changes i (Cut 0) (omega (arith, here, count_of written ks changes is))
     ∙ ap (λ step. changed (replayed spoil bytes (take i changes)) (redone spoil step)) (change_at written ks changes i d (Cut 0) is here)
+
+-- and is done backwards before those before it
+pub unwound_more : (bytes written : List ℕ) (ks : List KeptChange) (changes : List Change) (i : ℕ) (d : KeptChange) → changes_in written ks ≡ changes → i < length ks
+    → unwound bytes (drop i changes) ≡ changed (unwound bytes (drop (i + 1) changes)) (change_in written (get_or ks i d))
+unwound_more bytes written ks changes i d is here =
+    ap (unwound bytes) (drop_more changes i (Cut 0) (omega (arith, here, count_of written ks changes is)))
+    ∙ ap (λ step. changed (unwound bytes (drop (i + 1) changes)) step) (change_at written ks changes i d (Cut 0) is here)
 
 -- ---- acts of a disk
 

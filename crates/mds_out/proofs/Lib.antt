@@ -10,4 +10,5 @@ pub mod Moments
 pub mod Places
 pub mod Rooms
 pub mod Streams
+pub mod Undoing
 pub mod Writes

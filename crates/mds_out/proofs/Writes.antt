@@ -11,7 +11,7 @@ use Rattle.mds_out.specs.Change.{half_written}
 use Rattle.mds_out.specs.ContentLaws.{half_length}
 
 -- a front of a front
-take_min : (xs : List ℕ) (at len m : ℕ) → m ≡ min at len → len ≤ length xs → take at (take len xs) ≡ take m xs
+pub take_min : (xs : List ℕ) (at len m : ℕ) → m ≡ min at len → len ≤ length xs → take at (take len xs) ≡ take m xs
 take_min xs at len m is within = ⊎_elim
     (λ (lt : at < len). take-take at len xs (omega arith) ∙ ap (λ n. take n xs) (omega arith))
     (λ (le : len ≤ at). take_all at (take len xs) (omega (arith, length-take-le len xs within)) ∙ ap (λ n. take n xs) (omega arith)) (cases_lt at len)

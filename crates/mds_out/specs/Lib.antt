@@ -12,6 +12,7 @@ pub mod Disk
 pub mod Change
 pub mod Content
 pub mod ContentLaws
+pub mod Undo
 pub mod FileRooms
 pub mod Kept
 pub mod Past

@@ -33,24 +33,6 @@ pub(crate) fn spoil_over(buffer: &mut [u8], len: usize, at: usize, bytes: &[u8])
     len.max(end)
 }
 
-/// Copies the first bytes of `from` over those of `to`.
-pub(crate) fn copy_front(to: &mut Vec<u8>, from: &[u8], len: usize)
-    requires from { len ≤ length from.now }
-    requires to { len ≤ length to.old.items }
-    ensures copied { take len to.new.items ≡ take len from.now }
-    ensures len { length to.new.items ≡ length to.old.items }
-{
-    copy_slice_front(to, from, len);
-}
-
-fn copy_slice_front(to: &mut [u8], from: &[u8], len: usize)
-    requires from { len ≤ length from.now }
-    requires to { len ≤ length to.old }
-    ensures { take len to.new ≡ take len from.now }
-{
-    to[..len].copy_from_slice(&from[..len]);
-}
-
 /// Makes a buffer at least this long; what it holds stays at its front.
 pub(crate) fn make_room(buffer: &mut Vec<u8>, len: usize) -> Result<(), AllocError>
     ensures front { take (length buffer.old.items) buffer.new.items ≡ buffer.old.items }

@@ -1,7 +1,8 @@
-//! Changes of a file, oldest first, kept to be done again.
-ghost use Rattle.std.specs.Prelude.{◌≡◌, ◌≤◌, ◌∷◌, ◌++◌, [], length, take, fold, OnOk, OnErr, All};
+//! Changes of a file, oldest first, kept to be done again, or to be done backwards.
+ghost use Rattle.std.specs.Prelude.{◌≡◌, ◌<◌, ◌≤◌, ◌∷◌, ◌++◌, [], List, ℕ, length, take, drop, fold, OnOk, OnErr, All};
 ghost use Rattle.mds_out.specs.Change.{Write, Cut, changed, redone, change_end};
 ghost use Rattle.mds_out.specs.Kept.{IsChangeWithin, change_in};
+ghost use Rattle.mds_out.specs.Undo.{unwound};
 
 use crate::buffer::{spoil_over, write_over};
 use std::alloc::{AllocError, Global};
@@ -73,6 +74,21 @@ impl Changes {
         Ok(())
     }
 
+    /// Adds what takes a file back from what a change makes of it: its length, and its bytes of a range outside of
+    /// which the change leaves it. After a refusal what is kept takes the file back all the same.
+    pub(crate) fn add_old(&mut self, file: &[u8], from: usize, to: usize) -> Result<(), AllocError>
+        requires order { from ≤ to }
+        requires within { to ≤ length file.now }
+        ensures back { OnOk result ((now : List ℕ) → take from now ≡ take from file.now → (to < length file.now → drop to now ≡ drop to file.now)
+            → unwound now self.new ≡ unwound file.now self.old) }
+        ensures same { unwound file.now self.new ≡ unwound file.now self.old }
+        ensures fit { (n : ℕ) → length file.now ≤ n → All (λ change. change_end change ≤ n) self.old → All (λ change. change_end change ≤ n) self.new }
+    {
+        self.add_cut(file.len())?;
+        self.add_write(from, &file[from..to])?;
+        Ok(())
+    }
+
     /// Forgets all; the memory that they took stays for those to come.
     pub(crate) fn clear(&mut self)
         ensures { self.new ≡ [] }
@@ -91,6 +107,23 @@ impl Changes {
         let mut len = len;
         for kept in &self.kept {
             len = redo(buffer, len, &self.written, *kept, spoil);
+        }
+        len
+    }
+
+    /// Does them backwards, the last one first, to the first `len` bytes of a buffer, and says how many bytes count
+    /// then.
+    pub(crate) fn unwind(&self, buffer: &mut [u8], len: usize) -> usize
+        requires within { len ≤ length buffer.old }
+        requires fit { All (λ change. change_end change ≤ length buffer.old) self.now }
+        ensures count { result ≤ length buffer.new }
+        ensures unwound { take result buffer.new ≡ unwound (take len buffer.old) self.now }
+    {
+        let mut len = len;
+        let mut place = self.kept.len();
+        while place > 0 {
+            place -= 1;
+            len = redo(buffer, len, &self.written, self.kept[place], false);
         }
         len
     }

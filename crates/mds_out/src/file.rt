@@ -2,21 +2,21 @@
 ghost use Rattle.std.specs.Prelude.{◌≡◌, ◌+◌, ◌^◌, ◌<◌, ◌≤◌, [], length, take, drop, IfOk, OnOk, OnErr, All};
 ghost use Rattle.mds_out.specs.Change.{Write, Cut, change_end};
 ghost use Rattle.mds_out.specs.Content.{at_rest, bytes_of, left_of, with_change};
+ghost use Rattle.mds_out.specs.Undo.{unwound};
 
 use crate::Outcome;
-use crate::buffer::{copy_front, make_room, write_over};
+use crate::buffer::{make_room, write_over};
 use crate::changes::Changes;
 use std::alloc::{AllocError, Global};
 use std::marker::Model;
 
-/// Two buffers, of which the first bytes count: the file as it reads, and as its last sync left it. The changes
-/// since that sync are kept, so a sync costs what they wrote.
+/// A buffer, of which the first bytes count: the file as it reads. What takes it back to its last sync is kept, and
+/// the changes since, so a sync costs nothing for each byte.
 #[derive(Drop)]
 pub(crate) struct File {
     current: Vec<u8>,
     len: usize,
-    kept: Vec<u8>,
-    kept_len: usize,
+    undo: Changes,
     since: Changes,
 }
 
@@ -24,12 +24,13 @@ impl Model for File {
     ghost use Rattle.std.specs.Prelude.{take};
     ghost use Rattle.mds_out.specs.Content.{Content};
     ghost use Rattle.mds_out.specs.FileRooms.{HasRooms};
+    ghost use Rattle.mds_out.specs.Undo.{unwound};
 
     ghost Value = { Content };
 
-    ghost view = { λ f. record { synced = take f.kept_len f.kept.items; since = f.since } };
+    ghost view = { λ f. record { synced = unwound (take f.len f.current.items) f.undo; since = f.since } };
 
-    ghost invariant = { λ f. HasRooms f.current.items f.kept.items f.len f.kept_len f.since };
+    ghost invariant = { λ f. HasRooms f.current.items f.len f.undo f.since };
 }
 
 impl File {
@@ -39,8 +40,7 @@ impl File {
         File {
             current: Vec::new(alloc),
             len: 0,
-            kept: Vec::new(alloc),
-            kept_len: 0,
+            undo: Changes::new(alloc),
             since: Changes::new(alloc),
         }
     }
@@ -67,8 +67,10 @@ impl File {
         ensures err { OnErr result (self.new ≡ self.old) }
     {
         let end = at + bytes.len();
-        make_room(&mut self.kept, end)?;
         make_room(&mut self.current, end)?;
+        let from = at.min(self.len);
+        let to = end.min(self.len);
+        self.undo.add_old(&self.current[..self.len], from, to)?;
         self.since.add_write(at, bytes)?;
         self.len = write_over(&mut self.current, self.len, at, bytes);
         Ok(())
@@ -79,39 +81,56 @@ impl File {
         ensures ok { OnOk result (self.new ≡ with_change self.old (Cut to)) }
         ensures err { OnErr result (self.new ≡ self.old) }
     {
+        let end = to.min(self.len);
+        self.undo.add_old(&self.current[..self.len], end, self.len)?;
         self.since.add_cut(to)?;
-        self.len = self.len.min(to);
+        self.len = end;
         Ok(())
     }
 
     pub(crate) fn sync(&mut self)
         ensures { self.new ≡ at_rest (bytes_of self.old) }
     {
-        self.kept_len = settle(&mut self.kept, self.kept_len, &self.since, Outcome::New);
+        self.undo.clear();
         self.since.clear();
     }
 
     pub(crate) fn restart(&mut self, outcome: Outcome)
         ensures { self.new ≡ at_rest (left_of outcome self.old) }
     {
-        self.kept_len = settle(&mut self.kept, self.kept_len, &self.since, outcome);
+        self.len = settle(
+            &mut self.current,
+            self.len,
+            &self.undo,
+            &self.since,
+            outcome,
+        );
+        self.undo.clear();
         self.since.clear();
-        self.len = self.kept_len;
-        copy_front(&mut self.current, &self.kept, self.len);
     }
 }
 
 // Brings the first `len` bytes of a buffer to what a restart leaves, and says how many bytes count then.
-fn settle(kept: &mut Vec<u8>, len: usize, since: &Changes, outcome: Outcome) -> usize
-    requires within { len ≤ length kept.old.items }
-    requires fit { All (λ change. change_end change ≤ length kept.old.items) since.now }
-    ensures count { result ≤ length kept.new.items }
-    ensures len { length kept.new.items ≡ length kept.old.items }
-    ensures left { take result kept.new.items ≡ left_of outcome (record { synced = take len kept.old.items; since = since.now }) }
+fn settle(
+    current: &mut Vec<u8>,
+    len: usize,
+    undo: &Changes,
+    since: &Changes,
+    outcome: Outcome,
+) -> usize
+    requires within { len ≤ length current.old.items }
+    requires undo_fits { All (λ change. change_end change ≤ length current.old.items) undo.now }
+    requires since_fits { All (λ change. change_end change ≤ length current.old.items) since.now }
+    requires reads { take len current.old.items ≡ bytes_of (record { synced = unwound (take len current.old.items) undo.now; since = since.now }) }
+    ensures count { result ≤ length current.new.items }
+    ensures left { take result current.new.items ≡ left_of outcome (record { synced = unwound (take len current.old.items) undo.now; since = since.now }) }
 {
     match outcome {
-        Outcome::Old => len,
-        Outcome::New => since.replay(kept, len, false),
-        Outcome::Mixed => since.replay(kept, len, true),
+        Outcome::Old => undo.unwind(current, len),
+        Outcome::New => len,
+        Outcome::Mixed => {
+            let synced = undo.unwind(current, len);
+            since.replay(current, synced, true)
+        }
     }
 }

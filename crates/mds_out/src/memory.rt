@@ -16,8 +16,8 @@ use crate::{Disk, DiskFault, Outcome};
 use std::alloc::{AllocError, Global};
 use std::marker::Model;
 
-/// A disk in memory. A write costs the bytes written, a read the bytes read, and a sync what was written since the
-/// last one of its file. For its images it keeps each change, in one buffer for the bytes of all writes.
+/// A disk in memory. A write costs the bytes written, a read the bytes read, a cut the bytes cut, and a sync nothing
+/// for each byte. For its images it keeps each change, in one buffer for the bytes of all writes.
 #[derive(Drop)]
 pub struct Memory {
     alloc: Global,
