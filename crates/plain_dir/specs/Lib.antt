@@ -1,1 +1,4 @@
 pub mod Served
+pub mod Steps
+pub mod Numbers
+pub mod Checks

@@ -5,6 +5,12 @@
 //! of memory alone, leaves that map as it was.
 #![tactic(auto)]
 
+mod allowing;
+mod check;
 mod directory;
+mod numbers;
+mod replies;
+mod taking;
 
+pub use check::{Check, check_history};
 pub use directory::PlainDir;

@@ -1,0 +1,3 @@
+pub mod Applied
+pub mod Giving
+pub mod Checking
