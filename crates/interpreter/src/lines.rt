@@ -10,7 +10,7 @@ ghost use Rattle.simulation.specs.Shows.{Shows, client_at, is_idle, is_busy};
 ghost use Rattle.world.specs.declared.event.Event.TheVariants as Event;
 ghost use Rattle.world.specs.Events.{is_call};
 ghost use Rattle.interpreter.specs.Payments.{Pays, fuses_of};
-ghost use Rattle.interpreter.specs.Steps.{Carries, Halts, IsRound, IsRequested, allows};
+ghost use Rattle.interpreter.specs.Steps.{Carries, Halts, IsRound, IsRequested, allows, may_stand};
 ghost use Rattle.interpreter.specs.Story.{IsSaid, IsBegun, IsDone, IsFollowed, IsFollowing, IsSettled, IsSettling, IsSentAndFollowed, IsSending, is_allowed};
 
 use crate::interpreter::{EVENTS, Halt, Interpreter};
@@ -26,6 +26,21 @@ impl<D: Disk> Interpreter<D> {
         ensures allows { result ≡ allows self.now.simulation line.now }
         ensures allowed { (run : RunV) → Shows (seen_by D.seen) (images_by D.images) self.now.simulation run → result ≡ is_allowed run.trace.world line.now }
     {
+        self.allows(line)
+    }
+
+    fn allows(&self, line: &Line) -> bool
+        requires { IsSaid self.now.simulation.setup line.now }
+        ensures { result ≡ allows self.now.simulation line.now }
+    {
+        line.has_come() && self.may_stand(line)
+    }
+
+    // Whether a line may stand at its place, by what the simulation holds.
+    fn may_stand(&self, line: &Line) -> bool
+        requires { IsSaid self.now.simulation.setup line.now }
+        ensures { result ≡ may_stand self.now.simulation line.now }
+    {
         match line {
             Line::Skipped => true,
             Line::Call { client, .. } => !self.simulation.client(*client).busy(),
@@ -38,6 +53,13 @@ impl<D: Disk> Interpreter<D> {
             Line::Fuse { .. } => true,
             Line::Stop { server } => self.simulation.is_up(*server),
             Line::Restart { server } => !self.simulation.is_up(*server),
+            Line::Batch { .. } => false,
+            Line::Remind { .. } => false,
+            Line::Walk { .. } => false,
+            Line::Bulk { .. } => false,
+            Line::Rmdir { .. } => false,
+            Line::Feed { .. } => false,
+            Line::Promote { .. } => false,
         }
     }
 
@@ -75,6 +97,13 @@ impl<D: Disk> Interpreter<D> {
             }
             Line::Stop { server } => self.stop(server),
             Line::Restart { server } => self.restart(alloc, server),
+            Line::Batch { .. } => unreachable!(),
+            Line::Remind { .. } => unreachable!(),
+            Line::Walk { .. } => unreachable!(),
+            Line::Bulk { .. } => unreachable!(),
+            Line::Rmdir { .. } => unreachable!(),
+            Line::Feed { .. } => unreachable!(),
+            Line::Promote { .. } => unreachable!(),
         }
     }
 
