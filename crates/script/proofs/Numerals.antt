@@ -1,10 +1,12 @@
 -- Words that are numbers.
-use Rattle.std.proofs.Common.{◌≡◌, ◌∙◌, sym, ap, subst, refl, ℕ, ◌<◌, ◌^◌, zero, suc, List, length, get_or, lit<, Bool, cond, arith, Option, Some, None, Result, Ok, Err, decimal, nat_eq, nat_lt}
+use Rattle.std.proofs.Common.{◌≡◌, ◌∙◌, sym, ap, subst, refl, ℕ, ◌<◌, ◌^◌, zero, suc, List, [], ◌∷◌, length, get_or, lit<, Bool, cond, arith, Option, Some, None, Result, Ok, Err, decimal, nat_eq, nat_lt}
 use Rattle.std.specs.Prelude.{◌&&◌}
 use Rattle.std.specs.Cmp.Lexicographic.{pointwise}
+use Rattle.std.specs.Char.{digit_value}
+use Rattle.std.specs.Result.{OkIff}
 use Rattle.std.specs.Str.{IsUtf8, IsAscii}
 use Rattle.std.specs.Str.Parse.{ParsesUnsigned, AllDigits, digits_value}
-use Rattle.std.proofs.lemmas.Str.Parse.{IsNumeralModel}
+use Rattle.std.proofs.lemmas.Str.Parse.{IsNumeralModel, parse_plain}
 use Rattle.std.proofs.lemmas.Bool.{and_parts, and_from, ltb-true, lt-ltb}
 use Rattle.std.proofs.lemmas.Option.{cond_some}
 use Rattle.std.proofs.lemmas.Slice.Eq.{bytes_eq-Decides}
@@ -88,3 +90,20 @@ numeral_of n fits =
 
 pub numeral_found : (word : List ℕ) (n : ℕ) → (word ≡ decimal n) × (n < 2 ^ 64) → IsNumeral word × (digits_value 10 word ≡ n)
 numeral_found word n spelled = subst (λ w. IsNumeral w × (digits_value 10 w ≡ n)) (sym spelled.0) (numeral_of n spelled.1)
+
+-- ---- a word that begins as a number and parses
+
+first_digit : (word : List ℕ) → AllDigits 10 word → get_or word 0 0 ≡ 43 → ⊥
+first_digit [] all is = let e : 0 ≡ 43 = is in omega (arith, e)
+first_digit (byte ∷ word) all is = let below : digit_value 43 < 10 = subst (λ b. digit_value b < 10) is all.0 in omega (arith, below)
+
+-- the spelling of a number begins as a number
+pub begins_so : (word : List ℕ) (n : ℕ) → n < 2 ^ 64 → word ≡ decimal n → (get_or word 0 0 ≡ 43 → ⊥) × (get_or word 0 0 ≡ 48 → length word ≡ 1)
+begins_so word n fits is = let found = numeral_found word n (is, fits) in (first_digit word found.0.digits, found.0.plain)
+
+pub parsed_number : {E : Type 0} (word : List ℕ) (n : ℕ) (r : Result ℕ E) → ParsesUnsigned 64 10 word r → r ≡ Ok n → (get_or word 0 0 ≡ 43 → ⊥) → (get_or word 0 0 ≡ 48 → length word ≡ 1) → number_of word ≡ Some n
+parsed_number word n r parsed is sign alone =
+    let read = subst (λ r. OkIff r (AllDigits 10 word × (0 < length word) × (digits_value 10 word < 2 ^ 64)) (digits_value 10 word)) is (parse_plain own 64 word r parsed sign) in
+    number_is word n
+    (sym (decimal-digits_value own word read.0.0 read.0.1 alone read.0.2) ∙ ap decimal (sym read.1))
+    (subst (λ v. v < 2 ^ 64) (sym read.1) read.0.2)
