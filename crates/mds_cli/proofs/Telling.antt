@@ -12,6 +12,7 @@ use Rattle.mds_out.specs.Known.{OnKnown, OnTold}
 use Rattle.mds_out.specs.Stream.{TakesFront}
 use Rattle.script.specs.Grammar.{AreSpelled, IsLine, line_parts}
 use Rattle.script.specs.Words.{words_of}
+use Rattle.script.proofs.Printing.{words_said}
 use Rattle.script.specs.declared.line.Line.{Line}
 use Rattle.script.specs.declared.line.Line.TheVariants as lines
 use Rattle.simulation.specs.Licences.{once_at}
@@ -114,7 +115,7 @@ line_fuses setup bytes line says s = one_armed (fuses_of line s) (if arms (words
   where
     by : (l : Line) → IsLine setup (without_return bytes) l → fuses_of l s ≤ (if arms (words_of (without_return bytes)) s then 1 else 0)
     by l (inl comment) = subst (λ k. fuses_of k s ≤ (if arms (words_of (without_return bytes)) s then 1 else 0)) (sym comment.1) (none_armed (if arms (words_of (without_return bytes)) s then 1 else 0))
-    by (lines.Fuse server calls) (inr said) = fuse_words server calls s (words_of (without_return bytes)) said.0
+    by (lines.Fuse server calls) (inr said) = fuse_words server calls s (words_of (without_return bytes)) (words_said (line_parts (lines.Fuse server calls)) (without_return bytes) refl said.0)
     by lines.Skipped (inr said) = none_armed (if arms (words_of (without_return bytes)) s then 1 else 0)
     by (lines.Call client call) (inr said) = none_armed (if arms (words_of (without_return bytes)) s then 1 else 0)
     by (lines.Issue client call) (inr said) = none_armed (if arms (words_of (without_return bytes)) s then 1 else 0)
@@ -125,6 +126,13 @@ line_fuses setup bytes line says s = one_armed (fuses_of line s) (if arms (words
     by (lines.Tick by') (inr said) = none_armed (if arms (words_of (without_return bytes)) s then 1 else 0)
     by (lines.Stop server) (inr said) = none_armed (if arms (words_of (without_return bytes)) s then 1 else 0)
     by (lines.Restart server) (inr said) = none_armed (if arms (words_of (without_return bytes)) s then 1 else 0)
+    by (lines.Batch server places) (inr said) = none_armed (if arms (words_of (without_return bytes)) s then 1 else 0)
+    by (lines.Remind server) (inr said) = none_armed (if arms (words_of (without_return bytes)) s then 1 else 0)
+    by (lines.Walk client path) (inr said) = none_armed (if arms (words_of (without_return bytes)) s then 1 else 0)
+    by (lines.Bulk client dir name json) (inr said) = none_armed (if arms (words_of (without_return bytes)) s then 1 else 0)
+    by (lines.Rmdir client dir name) (inr said) = none_armed (if arms (words_of (without_return bytes)) s then 1 else 0)
+    by (lines.Feed server) (inr said) = none_armed (if arms (words_of (without_return bytes)) s then 1 else 0)
+    by (lines.Promote server) (inr said) = none_armed (if arms (words_of (without_return bytes)) s then 1 else 0)
 
 -- a line that was read
 first_armed : (line : List ℕ) (more all : List (List ℕ)) (s : ℕ) → all ≡ line ∷ more → fuses_armed (line ∷ []) s + fuses_armed more s ≤ fuses_armed all s
