@@ -3,6 +3,7 @@ use Rattle.simulation.specs.Fuses.{seen_by, images_by}
 use Rattle.mds_cli.specs.Lines.{without_return}
 use Rattle.mds_cli.specs.Turn.{StopsCall}
 use Rattle.mds_cli.proofs.Calling.{none_bad, says_line, stops_halted, refused_line}
+use Rattle.mds_cli.proofs.Paying.{pays_line}
 use Rattle.mds_cli.proofs.session.Session.carry_out.Goals as goal
 
 pub returns-in-Err-NotALine-clause-err : goal.returns-in-Err-NotALine-clause-err
@@ -34,3 +35,15 @@ returns-in-Err-clause-err g c =
     (says_line c.args.self.now.interpreter.simulation.setup c.setup.result c.args.self.now.line.items c.without_return-bytes.result.now (c.without_return-bytes.ensures ∙ ap without_return c.deref.ensures.value) c.setup.ensures c.in-Ok.line (omega (arith, c.if-bytes-gt-LINE_LIMIT.false)) c.in-Ok.ensures.found)
     (λ run shows. sym (c.is_allowed.ensures.allowed run shows) ∙ c.if-not-is_allowed.false)
     (omega (arith, c.if-number-gt-LINE_COUNT.false)) c.in-Err.ensures.setup c.in-Err.halt c.in-Err.ensures.err)
+
+pub returns-in-Ok-carry_out-clause-paid : goal.returns-in-Ok-carry_out-clause-paid
+returns-in-Ok-carry_out-clause-paid g c =
+    pays_line g.D.Disk.faults c.args.self.now.interpreter.simulation.setup c.args.self.now.line.items c.in-Ok.line c.args.self.now.interpreter.simulation.stores c.carry_out.new.self.simulation.stores c.args.self.now.interpreter.pending.items c.carry_out.new.self.pending.items
+    (says_line c.args.self.now.interpreter.simulation.setup c.setup.result c.args.self.now.line.items c.without_return-bytes.result.now (c.without_return-bytes.ensures ∙ ap without_return c.deref.ensures.value) c.setup.ensures c.in-Ok.line (omega (arith, c.if-bytes-gt-LINE_LIMIT.false)) c.in-Ok.ensures.found)
+    c.in-Ok-carry_out.ensures.paid
+
+pub returns-in-Err-clause-paid : goal.returns-in-Err-clause-paid
+returns-in-Err-clause-paid g c =
+    pays_line g.D.Disk.faults c.args.self.now.interpreter.simulation.setup c.args.self.now.line.items c.in-Ok.line c.args.self.now.interpreter.simulation.stores c.carry_out.new.self.simulation.stores c.args.self.now.interpreter.pending.items c.carry_out.new.self.pending.items
+    (says_line c.args.self.now.interpreter.simulation.setup c.setup.result c.args.self.now.line.items c.without_return-bytes.result.now (c.without_return-bytes.ensures ∙ ap without_return c.deref.ensures.value) c.setup.ensures c.in-Ok.line (omega (arith, c.if-bytes-gt-LINE_LIMIT.false)) c.in-Ok.ensures.found)
+    c.in-Err.ensures.paid
