@@ -3,12 +3,13 @@ use Rattle.std.specs.Int.{w16, w32, w64, to_be_bytes}
 use Rattle.std.proofs.lemmas.Result.{on_ok_weaker}
 use Rattle.mds_base.specs.declared.attr.Stamp.{Stamp}
 use Rattle.mds_base.specs.declared.call.Call.TheVariants.{Setattr}
+use Rattle.records.specs.declared.kinds.TheConstants.{CALL_STAMP}
 use Rattle.records.specs.Spelling.{name_spelling, call_spelling}
 use Rattle.records.proofs.writing.put_set.Goals as goal
 
 -- the parts of a call with a stamp, one after another, are its spelling
-regrouped : (old dir name mode rest : List ℕ) → ((old ++ 8 ∷ (dir ++ name)) ++ mode) ++ rest ≡ old ++ 8 ∷ (dir ++ (name ++ (mode ++ rest)))
-regrouped old dir name mode rest = simp append_assoc
+regrouped : (kind : ℕ) (old dir name mode rest : List ℕ) → ((old ++ kind ∷ (dir ++ name)) ++ mode) ++ rest ≡ old ++ kind ∷ (dir ++ (name ++ (mode ++ rest)))
+regrouped kind old dir name mode rest = simp append_assoc
 
 pub returns-in_ok-put_u16-in-Some : goal.returns-in_ok-put_u16-in-Some
 returns-in_ok-put_u16-in-Some c =
@@ -17,6 +18,6 @@ returns-in_ok-put_u16-in-Some c =
     let start = c.in_ok-put_start-in-Some.ensures in
     let mode = c.in_ok-put_u16-in-Some.ensures in
     let before = mode ∙ ap (λ (t : List ℕ). t ++ to_be_bytes w16 c.args.mode) start in
-    let grouped = regrouped c.args.out.now.items (to_be_bytes w64 c.args.dir) (name_spelling c.args.name.now) (to_be_bytes w16 c.args.mode) rest in
+    let grouped = regrouped CALL_STAMP c.args.out.now.items (to_be_bytes w64 c.args.dir) (name_spelling c.args.name.now) (to_be_bytes w16 c.args.mode) rest in
     let stamped = ap (λ (stamp : Option Stamp). c.args.out.now.items ++ call_spelling (Setattr c.args.dir c.args.name.now c.args.mode c.args.size stamp)) (sym s.is) in
     on_ok_weaker c.put_stamped.result (λ written. written ∙ ap (λ (t : List ℕ). t ++ rest) before ∙ grouped ∙ stamped) c.put_stamped.ensures
