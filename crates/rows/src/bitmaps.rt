@@ -3,8 +3,8 @@ use crate::plain_bitmap::{PARTS, PlainBitmap};
 use crate::row_fault::{Answer, RowFault};
 use crate::words::{Words, list_text, text, yes_or_no};
 use bitmap::{Bitmap, WORDS};
+use chains::reverse;
 use mds_base::RADIX;
-use name_hash::reverse;
 use std::alloc::{AllocError, Global};
 use std::fmt::Write;
 

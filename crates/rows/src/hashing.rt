@@ -3,7 +3,9 @@ ghost use Rattle.std.specs.Prelude.{◌≡◌};
 
 use crate::row_fault::{Answer, RowFault};
 use crate::words::{Words, list_text};
-use name_hash::{chain_next, hash, reverse};
+use chains::{chain_next, reverse};
+use mds_base::RADIX;
+use name_hash::hash;
 use std::alloc::{AllocError, Global};
 
 /// `hash NAME`, `reverse HASH`, `chain HASH`.
@@ -42,7 +44,7 @@ fn chain_of(alloc: Global, hash: u64) -> Result<Vec<u32>, AllocError> {
     let mut part = 0;
     let mut chain = Vec::new(alloc);
     chain.push(part)?;
-    while let Some(next) = chain_next(hash, part) {
+    while let Some(next) = chain_next(RADIX, hash, part) {
         chain.push(next)?;
         part = next;
     }
