@@ -73,6 +73,9 @@ fn is_right(
     if setup.servers < 1 || 32 < setup.servers || setup.clients < 1 || 64 < setup.clients {
         return Err(RowFault::Refused);
     }
+    if 1_000_000 < setup.lease {
+        return Err(RowFault::Refused);
+    }
     let mut dice = Dice { state: seed };
     let mut history = History::new(alloc);
     let mut world = World::new(alloc, setup)?;
