@@ -9,9 +9,11 @@
 mod bitmaps;
 mod failing;
 mod hashing;
+mod history;
 mod keeping;
 mod logging;
 mod naming;
+mod opening;
 mod placing;
 mod plain_bitmap;
 mod recording;
@@ -20,6 +22,7 @@ mod scripting;
 mod streaming;
 mod values;
 mod words;
+mod worlds;
 
 use row_fault::{Answer, RowFault};
 use std::alloc::{AllocError, Global};
@@ -61,6 +64,8 @@ fn answer(alloc: Global, mut words: Words<'_>) -> Answer {
         "stream" => streaming::answer(alloc, words),
         "mds_out" => failing::answer(alloc, words),
         "gate_log" => logging::answer(alloc, words),
+        "node_store" => opening::answer(alloc, words),
+        "world" => worlds::answer(alloc, words),
         _ => Err(RowFault::NotARow),
     }
 }
