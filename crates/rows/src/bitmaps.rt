@@ -1,7 +1,6 @@
 //! Rows of `bitmap`. A bitmap is written as the list of its partitions.
+use row_words::{Answer, RowFault, Words, list_text, text, yes_or_no};
 use crate::plain_bitmap::{PARTS, PlainBitmap};
-use crate::row_fault::{Answer, RowFault};
-use crate::words::{Words, list_text, text, yes_or_no};
 use bitmap::{Bitmap, WORDS};
 use chains::reverse;
 use mds_base::RADIX;

@@ -1,8 +1,7 @@
 //! Rows of `name_hash`.
 ghost use Rattle.std.specs.Prelude.{◌≡◌};
 
-use crate::row_fault::{Answer, RowFault};
-use crate::words::{Words, list_text};
+use row_words::{Answer, RowFault, Words, list_text};
 use chains::{chain_next, reverse};
 use mds_base::RADIX;
 use name_hash::hash;

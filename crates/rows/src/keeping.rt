@@ -1,7 +1,5 @@
 //! Rows of `sessions`.
-use crate::row_fault::{Answer, RowFault};
-use crate::values::{push_final, read_final};
-use crate::words::{BETWEEN, Words, push_answer, text};
+use row_words::{Answer, BETWEEN, RowFault, Words, push_answer, push_final, read_final, text};
 use mds_base::Session;
 use sessions::{Judged, Sessions};
 use std::alloc::Global;

@@ -1,7 +1,5 @@
 //! Rows of `mds_base`: which bytes are names, and the rows of a partition.
-use crate::row_fault::{Answer, RowFault};
-use crate::values::{attr_text, read_file};
-use crate::words::{BETWEEN, Words, push_answer, push_name, text, yes_or_no};
+use row_words::{Answer, BETWEEN, RowFault, Words, attr_text, push_answer, push_name, read_file, text, yes_or_no};
 use mds_base::{Cursor, MapRows, Name, NameFault, RowKey, RowList, Rows};
 use std::alloc::Global;
 

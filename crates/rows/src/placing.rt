@@ -1,6 +1,5 @@
 //! Rows of `placement`.
-use crate::row_fault::{Answer, RowFault};
-use crate::words::Words;
+use row_words::{Answer, RowFault, Words};
 use placement::{server_of, zeroth};
 use std::alloc::Global;
 

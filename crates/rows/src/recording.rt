@@ -1,7 +1,6 @@
 //! Rows of `records`.
-use crate::row_fault::{Answer, RowFault};
 use crate::values::record_text;
-use crate::words::{Words, hex_text, text};
+use row_words::{Answer, RowFault, Words, hex_text, text};
 use records::{RecordFault, read, write};
 use std::alloc::Global;
 

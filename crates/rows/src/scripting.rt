@@ -1,7 +1,6 @@
 //! Rows of `script`, for three servers and two clients.
-use crate::row_fault::{Answer, RowFault};
 use crate::values::line_text;
-use crate::words::{Words, text};
+use row_words::{Answer, RowFault, Words, text};
 use mds_base::Setup;
 use script::{LineFault, read_line};
 use std::alloc::Global;

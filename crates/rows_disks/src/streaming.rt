@@ -1,6 +1,5 @@
 //! Rows of `mds_out`: sources and sinks in memory.
-use crate::row_fault::{Answer, RowFault};
-use crate::words::{BETWEEN, Words, hex_text, push_answer, text};
+use row_words::{Answer, BETWEEN, RowFault, Words, hex_text, push_answer, text};
 use mds_out::{BytesIn, BytesOut, Sink, Source, write_whole};
 use std::alloc::Global;
 

@@ -2,9 +2,8 @@
 ghost use Rattle.std.specs.Prelude.{◌≡◌, ◌<◌, true};
 ghost use Rattle.world.specs.Events.{enabled};
 
+use row_words::{Answer, RowFault, Words};
 use crate::history::{Effect, History, Issued};
-use crate::row_fault::{Answer, RowFault};
-use crate::words::Words;
 use bitmap::Bitmap;
 use mds_base::{Call, Name, NameFault, PlaceList, Reply, Setup, Stamp};
 use records::{Msg, Record};

@@ -9,19 +9,19 @@ use std::fmt::Write;
 /// The words of a row that are still to be read, with one space between them. The word `K` stands for a number: in a
 /// row that is run again and again, for that of the run.
 #[derive(Clone, Copy)]
-pub(crate) struct Words<'a> {
+pub struct Words<'a> {
     rest: &'a str,
     run: u64,
 }
 
 impl<'a> Words<'a> {
     /// The words of a line, in the run of this number.
-    pub(crate) fn new(line: &'a str, run: u64) -> Words<'a> {
+    pub fn new(line: &'a str, run: u64) -> Words<'a> {
         Words { rest: line, run }
     }
 
     /// The next word.
-    pub(crate) fn word(&mut self) -> Result<&'a str, RowFault> {
+    pub fn word(&mut self) -> Result<&'a str, RowFault> {
         if self.rest.is_empty() {
             return Err(RowFault::NotARow);
         }
@@ -39,12 +39,12 @@ impl<'a> Words<'a> {
     }
 
     /// All that follows, as it stands.
-    pub(crate) fn rest(self) -> &'a str {
+    pub fn rest(self) -> &'a str {
         self.rest
     }
 
     /// The words of an action of this row.
-    pub(crate) fn action(self, action: &'a str) -> Words<'a> {
+    pub fn action(self, action: &'a str) -> Words<'a> {
         Words {
             rest: action,
             run: self.run,
@@ -52,7 +52,7 @@ impl<'a> Words<'a> {
     }
 
     /// The same words, in the run of this number.
-    pub(crate) fn in_run(self, run: u64) -> Words<'a> {
+    pub fn in_run(self, run: u64) -> Words<'a> {
         Words {
             rest: self.rest,
             run,
@@ -60,12 +60,12 @@ impl<'a> Words<'a> {
     }
 
     /// Whether no word is left.
-    pub(crate) fn is_empty(&self) -> bool {
+    pub fn is_empty(&self) -> bool {
         self.rest.is_empty()
     }
 
     /// That no word is left.
-    pub(crate) fn end(self) -> Result<(), RowFault> {
+    pub fn end(self) -> Result<(), RowFault> {
         if self.rest.is_empty() {
             Ok(())
         } else {
@@ -74,17 +74,17 @@ impl<'a> Words<'a> {
     }
 
     /// The next word, a decimal number.
-    pub(crate) fn number(&mut self) -> Result<u64, RowFault> {
+    pub fn number(&mut self) -> Result<u64, RowFault> {
         number(self.word()?, self.run)
     }
 
     /// The next word, a decimal number below 2^32.
-    pub(crate) fn small(&mut self) -> Result<u32, RowFault> {
+    pub fn small(&mut self) -> Result<u32, RowFault> {
         small(self.word()?)
     }
 
     /// The next word, a hexadecimal number.
-    pub(crate) fn hex_number(&mut self) -> Result<u64, RowFault> {
+    pub fn hex_number(&mut self) -> Result<u64, RowFault> {
         match u64::from_str_radix(self.word()?, 16) {
             Ok(number) => Ok(number),
             Err(_) => Err(RowFault::NotARow),
@@ -92,7 +92,7 @@ impl<'a> Words<'a> {
     }
 
     /// The next word, bytes in hexadecimal; `-` is no byte.
-    pub(crate) fn hex(&mut self, alloc: Global) -> Result<Vec<u8>, RowFault> {
+    pub fn hex(&mut self, alloc: Global) -> Result<Vec<u8>, RowFault> {
         let word = self.word()?;
         if word == "-" {
             return Ok(Vec::new(alloc));
@@ -106,7 +106,7 @@ impl<'a> Words<'a> {
 
     /// The next word, bytes of which `%` and two hexadecimal digits stand for one, and every other for itself; `-` is
     /// no byte.
-    pub(crate) fn spelled(&mut self, alloc: Global) -> Result<Vec<u8>, RowFault> {
+    pub fn spelled(&mut self, alloc: Global) -> Result<Vec<u8>, RowFault> {
         let mut bytes = Vec::new(alloc);
         let word = self.word()?;
         if word != "-" {
@@ -116,7 +116,7 @@ impl<'a> Words<'a> {
     }
 
     /// The next word, a name; the word is refused where its bytes are none.
-    pub(crate) fn name(&mut self, alloc: Global) -> Result<Name, RowFault> {
+    pub fn name(&mut self, alloc: Global) -> Result<Name, RowFault> {
         let bytes = self.spelled(alloc)?;
         match Name::read(alloc, bytes.as_slice()) {
             Ok(name) => Ok(name),
@@ -126,7 +126,7 @@ impl<'a> Words<'a> {
     }
 
     /// The next word, decimal numbers with commas between them; `-` is no number.
-    pub(crate) fn list(&mut self, alloc: Global) -> Result<Vec<u64>, RowFault> {
+    pub fn list(&mut self, alloc: Global) -> Result<Vec<u64>, RowFault> {
         let mut numbers = Vec::new(alloc);
         let word = self.word()?;
         if word != "-" {
@@ -156,15 +156,15 @@ fn small(word: &str) -> Result<u32, RowFault> {
 }
 
 /// A text of one word.
-pub(crate) fn text(alloc: Global, word: &str) -> Answer {
+pub fn text(alloc: Global, word: &str) -> Answer {
     Ok(String::from_str(alloc, word)?)
 }
 
 /// What stands between two actions of a row, and between their answers.
-pub(crate) const BETWEEN: &str = "; ";
+pub const BETWEEN: &str = "; ";
 
 /// The answer to one action more, at the end of those before it. It is refused only where there is no memory.
-pub(crate) fn push_answer(out: &mut String, answer: Answer) -> Result<(), AllocError> {
+pub fn push_answer(out: &mut String, answer: Answer) -> Result<(), AllocError> {
     if !out.as_str().is_empty() {
         out.push_str(BETWEEN)?;
     }
@@ -176,12 +176,12 @@ pub(crate) fn push_answer(out: &mut String, answer: Answer) -> Result<(), AllocE
 }
 
 /// `yes` or `no`.
-pub(crate) fn yes_or_no(alloc: Global, yes: bool) -> Answer {
+pub fn yes_or_no(alloc: Global, yes: bool) -> Answer {
     text(alloc, if yes { "yes" } else { "no" })
 }
 
 /// Numbers with commas between them; `-` where there is none.
-pub(crate) fn list_text(alloc: Global, numbers: &[u32]) -> Answer {
+pub fn list_text(alloc: Global, numbers: &[u32]) -> Answer {
     if numbers.is_empty() {
         return text(alloc, "-");
     }
@@ -196,7 +196,7 @@ pub(crate) fn list_text(alloc: Global, numbers: &[u32]) -> Answer {
 }
 
 /// Bytes in hexadecimal; `-` where there is none.
-pub(crate) fn hex_text(alloc: Global, bytes: &[u8]) -> Answer {
+pub fn hex_text(alloc: Global, bytes: &[u8]) -> Answer {
     if bytes.is_empty() {
         return text(alloc, "-");
     }
@@ -204,7 +204,7 @@ pub(crate) fn hex_text(alloc: Global, bytes: &[u8]) -> Answer {
 }
 
 /// A name as a script spells it, at the end of a text.
-pub(crate) fn push_name(out: &mut String, name: &Name) -> Result<(), AllocError> {
+pub fn push_name(out: &mut String, name: &Name) -> Result<(), AllocError> {
     percent_encode(name.bytes(), escaped()).append_to(out)
 }
 

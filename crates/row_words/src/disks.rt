@@ -1,4 +1,4 @@
-//! Rows of `mds_out`: disks in memory that fail and crash.
+//! Actions on a disk in memory that fails and crashes, and rows of such a disk alone.
 ghost use Rattle.std.specs.Prelude.{◌≡◌};
 
 use crate::row_fault::{Answer, RowFault};
@@ -8,11 +8,11 @@ use std::alloc::{AllocError, Global};
 use std::fmt::Write;
 
 /// How often a row is run at most.
-pub(crate) const RUNS: u64 = 100;
+pub const RUNS: u64 = 100;
 
 /// `disk OUTCOME FAILS ACTION; ..` on a new disk, and `each OUTCOME FAILS ACTION; ..`, which is run for each K from 0 on
 /// up to the first run in which no call failed.
-pub(crate) fn answer(alloc: Global, mut words: Words<'_>) -> Answer {
+pub fn disk_row(alloc: Global, mut words: Words<'_>) -> Answer {
     match words.word()? {
         "disk" => run(alloc, words),
         "each" => each(alloc, words),
@@ -32,7 +32,7 @@ fn each(alloc: Global, words: Words<'_>) -> Answer {
 }
 
 /// The answers of one run more, at the end of those before it; says whether a call failed in it.
-pub(crate) fn push_run(out: &mut String, number: u64, said: &str) -> Result<bool, AllocError> {
+pub fn push_run(out: &mut String, number: u64, said: &str) -> Result<bool, AllocError> {
     write!(out, "\n  {number}: {said}")?;
     Ok(said.contains("device"))
 }
@@ -48,7 +48,7 @@ fn run(alloc: Global, mut words: Words<'_>) -> Answer {
 }
 
 /// A new disk of the outcome `old`, `new` or `mixed`, of which the calls with these numbers fail.
-pub(crate) fn new_disk(alloc: Global, words: &mut Words<'_>) -> Result<Fuse<Memory>, RowFault> {
+pub fn new_disk(alloc: Global, words: &mut Words<'_>) -> Result<Fuse<Memory>, RowFault> {
     let outcome = match words.word()? {
         "old" => Outcome::Old,
         "new" => Outcome::New,
@@ -62,7 +62,7 @@ pub(crate) fn new_disk(alloc: Global, words: &mut Words<'_>) -> Result<Fuse<Memo
 
 /// `write FILE AT BYTES`, `cut FILE TO` and `read FILE` (each asks for the length first), `length FILE`, `sync FILE`,
 /// `restart`, `arm CALLS`, `mend`.
-pub(crate) fn act<D: Disk>(alloc: Global, disk: &mut Fuse<D>, mut words: Words<'_>) -> Answer {
+pub fn act<D: Disk>(alloc: Global, disk: &mut Fuse<D>, mut words: Words<'_>) -> Answer {
     match words.word()? {
         "write" => write_at(alloc, disk, words),
         "cut" => cut(alloc, disk, words),
@@ -124,7 +124,7 @@ fn read<D: Disk>(alloc: Global, disk: &mut Fuse<D>, mut words: Words<'_>) -> Ans
 }
 
 /// All bytes of a file.
-pub(crate) fn bytes_of<D: Disk>(
+pub fn bytes_of<D: Disk>(
     alloc: Global,
     disk: &mut Fuse<D>,
     file: u32,
@@ -156,7 +156,7 @@ fn restart<D: Disk>(alloc: Global, disk: &mut Fuse<D>, words: Words<'_>) -> Answ
 }
 
 /// From here on so many calls of the disk pass.
-pub(crate) fn arm<D: Disk>(alloc: Global, disk: &mut Fuse<D>, mut words: Words<'_>) -> Answer
+pub fn arm<D: Disk>(alloc: Global, disk: &mut Fuse<D>, mut words: Words<'_>) -> Answer
     ensures { disk.new.inner ≡ disk.old.inner }
 {
     let calls = words.number()?;
@@ -166,7 +166,7 @@ pub(crate) fn arm<D: Disk>(alloc: Global, disk: &mut Fuse<D>, mut words: Words<'
 }
 
 /// From here on all calls of the disk pass.
-pub(crate) fn mend<D: Disk>(alloc: Global, disk: &mut Fuse<D>, words: Words<'_>) -> Answer
+pub fn mend<D: Disk>(alloc: Global, disk: &mut Fuse<D>, words: Words<'_>) -> Answer
     ensures { disk.new.inner ≡ disk.old.inner }
 {
     words.end()?;

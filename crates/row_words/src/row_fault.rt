@@ -6,7 +6,7 @@ use thiserror::Error;
 
 /// Why a call has no answer but this.
 #[derive(Clone, Copy, Debug, PartialEq, Eq, Error)]
-pub(crate) enum RowFault {
+pub enum RowFault {
     /// The line, or the action, is none.
     #[error("not a row")]
     NotARow,
@@ -28,7 +28,7 @@ pub(crate) enum RowFault {
 }
 
 /// What a call answered, as text.
-pub(crate) type Answer = Result<String, RowFault>;
+pub type Answer = Result<String, RowFault>;
 
 impl From<AllocError> for RowFault {
     fn from(_: AllocError) -> RowFault {

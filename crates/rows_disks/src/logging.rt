@@ -1,11 +1,8 @@
 //! Rows of `gate_log`: a log on a disk that fails and crashes.
 ghost use Rattle.std.specs.Prelude.{MatchOption};
-ghost use Rattle.rows.specs.Benches.{IsRunning, IsBench};
+ghost use Rattle.rows_disks.specs.Benches.{IsRunning, IsBench};
 
-use crate::failing;
-use crate::failing::{RUNS, push_run};
-use crate::row_fault::{Answer, RowFault};
-use crate::words::{BETWEEN, Words, hex_text, push_answer, text};
+use row_words::{Answer, BETWEEN, RUNS, RowFault, Words, hex_text, push_answer, push_run, text};
 use gate_log::{GateLog, Piece};
 use mds_out::{Disk, Fuse};
 use std::alloc::Global;
@@ -32,7 +29,7 @@ fn each(alloc: Global, words: Words<'_>) -> Answer {
 }
 
 fn run(alloc: Global, mut words: Words<'_>) -> Answer {
-    let disk = failing::new_disk(alloc, &mut words)?;
+    let disk = row_words::new_disk(alloc, &mut words)?;
     run_on(alloc, disk, words)
 }
 
@@ -60,8 +57,8 @@ fn act<D: Disk>(
     let mut rest = words;
     match rest.word()? {
         "append" => append(alloc, disk, log, rest),
-        "arm" => failing::arm(alloc, disk, rest),
-        "mend" => failing::mend(alloc, disk, rest),
+        "arm" => row_words::arm(alloc, disk, rest),
+        "mend" => row_words::mend(alloc, disk, rest),
         _ => {
             *log = None;
             reopen(alloc, disk, log, words)
@@ -83,7 +80,7 @@ fn reopen<D: Disk>(
         "create" => create(alloc, disk, log, rest),
         "open" => open(alloc, disk, log, rest),
         "replay" => replay(alloc, disk, rest),
-        _ => failing::act(alloc, disk, words),
+        _ => row_words::act(alloc, disk, words),
     }
 }
 

@@ -1,8 +1,8 @@
 use Rattle.std.proofs.Common.{◌≡◌, ◌-◌, ◌<◌, ◌^◌, false}
 use Rattle.mds_out.specs.Known.{OnTold}
 use Rattle.gate_log.specs.Calls.{IsSomeGate}
-use Rattle.rows.specs.Benches.{IsRunning}
-use Rattle.rows.proofs.logging.replay_into.Given as goal
+use Rattle.rows_disks.specs.Benches.{IsRunning}
+use Rattle.rows_disks.proofs.logging.replay_into.Given as goal
 
 -- the log is as its calls left it, and the next body stands behind the gate
 abbrev pub invariant-bodies : goal.invariant-bodies

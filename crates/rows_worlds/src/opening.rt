@@ -1,7 +1,5 @@
 //! Rows of `node_store`: disks on which server 0 of 1 is brought up.
-use crate::failing::bytes_of;
-use crate::row_fault::{Answer, RowFault};
-use crate::words::{Words, hex_text};
+use row_words::{Answer, RowFault, Words, bytes_of, hex_text};
 use mds_base::{Damage, Setup, StoreFault};
 use mds_out::{Disk, Fuse, Memory, Outcome};
 use node_store::{NodeStore, Refused};

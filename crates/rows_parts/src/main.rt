@@ -1,0 +1,21 @@
+//! The program `rows_parts`: rows of the parts of a server and of a client. `crates/rows/README.md` says what a row is.
+#![tactic(auto)]
+
+use row_words::{Answer, RowFault, Table, Words, print};
+use std::alloc::Global;
+use std::io;
+
+fn main(rt: HostRuntime) -> io::Result<()> {
+    print::<Calls>(rt)
+}
+
+/// The calls of the parts.
+struct Calls;
+
+impl Table for Calls {
+    fn answer(alloc: Global, mut words: Words<'_>) -> Answer {
+        match words.word()? {
+            _ => Err(RowFault::NotARow),
+        }
+    }
+}

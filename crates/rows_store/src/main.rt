@@ -1,0 +1,22 @@
+//! The program `rows_store`: rows of the durable map: frames, roots, tables, merging, the store.
+//! `crates/rows/README.md` says what a row is.
+#![tactic(auto)]
+
+use row_words::{Answer, RowFault, Table, Words, print};
+use std::alloc::Global;
+use std::io;
+
+fn main(rt: HostRuntime) -> io::Result<()> {
+    print::<Calls>(rt)
+}
+
+/// The calls of the durable map.
+struct Calls;
+
+impl Table for Calls {
+    fn answer(alloc: Global, mut words: Words<'_>) -> Answer {
+        match words.word()? {
+            _ => Err(RowFault::NotARow),
+        }
+    }
+}
