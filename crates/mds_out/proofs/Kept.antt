@@ -1,17 +1,14 @@
--- What is kept of a file and of a disk in memory, one change or act more or less.
+-- What is kept of a file in memory, one change more or less.
 use Rattle.std.proofs.Common.{◌≡◌, ◌∙◌, sym, ap, refl, ℕ, zero, suc, ◌+◌, ◌-◌, ◌<◌, ◌≤◌, Bool, List, [], ◌∷◌, ◌++◌, length, length-append, map, take, drop, get_or, All, arith}
 use Rattle.std.specs.List.{AllByRecursion}
 use Rattle.std.proofs.lemmas.List.Sums.{fold_more}
 use Rattle.std.proofs.lemmas.List.{drop_more, get_or-map, length-drop, length-map, map-append, take-append-le, take-map, take_all, drop-append-le, drop_all}
 use Rattle.mds_out.specs.Change.{Change, Write, Cut, changed, redone, change_end}
 use Rattle.mds_out.specs.Content.{replayed}
-use Rattle.mds_out.specs.Past.{Act, Changed}
 use Rattle.mds_out.specs.Undo.{unwound}
-use Rattle.mds_out.specs.declared.acts.Kept.{Kept}
-use Rattle.mds_out.specs.declared.acts.Kept.TheVariants as kept
 use Rattle.mds_out.specs.declared.changes.KeptChange.{KeptChange}
 use Rattle.mds_out.specs.declared.changes.KeptChange.TheVariants as change
-use Rattle.mds_out.specs.Kept.{change_in, changes_in, IsChangeWithin, act_in, acts_in, IsWithin}
+use Rattle.mds_out.specs.Kept.{change_in, changes_in, IsChangeWithin}
 
 -- bytes at a place are the same where more stand behind them
 same_bytes : (written more : List ℕ) (from len : ℕ) → from + len ≤ length written → take len (drop from (written ++ more)) ≡ take len (drop from written)
@@ -97,45 +94,3 @@ pub unwound_more : (bytes written : List ℕ) (ks : List KeptChange) (changes : 
 unwound_more bytes written ks changes i d is here =
     ap (unwound bytes) (drop_more changes i (Cut 0) (omega (arith, here, count_of written ks changes is)))
     ∙ ap (λ step. changed (unwound bytes (drop (i + 1) changes)) step) (change_at written ks changes i d (Cut 0) is here)
-
--- ---- acts of a disk
-
-same_act : (written more : List ℕ) (k : Kept) → IsWithin (length written) k → act_in (written ++ more) k ≡ act_in written k
-same_act written more (kept.Write file at from len) within = ap (λ b. Changed file (Write at b)) (same_bytes written more from len within)
-same_act written more (kept.Cut file to) within = refl
-same_act written more (kept.Synced file) within = refl
-same_act written more kept.Restarted within = refl
-
-within_more : (m n : ℕ) (k : Kept) → m ≤ n → IsWithin m k → IsWithin n k
-within_more m n (kept.Write file at from len) more within = omega (arith, more, within)
-within_more m n (kept.Cut file to) more within = tt
-within_more m n (kept.Synced file) more within = tt
-within_more m n kept.Restarted more within = tt
-
--- one act more is within
-pub within_push : (m n : ℕ) (ks : List Kept) (k : Kept) → m ≤ n → AllByRecursion (IsWithin m) ks → IsWithin n k → AllByRecursion (IsWithin n) (ks ++ k ∷ [])
-within_push = within_one act_in IsWithin same_act within_more
-
-pub within_take : (n count : ℕ) (ks : List Kept) → AllByRecursion (IsWithin n) ks → AllByRecursion (IsWithin n) (take count ks)
-within_take n zero ks within = tt
-within_take n (suc count) [] within = tt
-within_take n (suc count) (k ∷ ks) within = (within.0, within_take n count ks within.1)
-
--- the acts, with one more
-pub acts_push : (written : List ℕ) (ks : List Kept) (k : Kept) → acts_in written (ks ++ k ∷ []) ≡ acts_in written ks ++ act_in written k ∷ []
-acts_push written ks k = map-append (act_in written) ks (k ∷ [])
-
--- with a write more
-pub acts_write : (written bytes : List ℕ) (ks : List Kept) (file at : ℕ) → AllByRecursion (IsWithin (length written)) ks
-    → acts_in (written ++ bytes) (ks ++ kept.Write file at (length written) (length bytes) ∷ []) ≡ acts_in written ks ++ Changed file (Write at bytes) ∷ []
-acts_write written bytes ks file at within =
-    written_one act_in IsWithin same_act within_more written bytes ks (kept.Write file at (length written) (length bytes)) (Changed file (Write at bytes)) within (ap (λ b. Changed file (Write at b)) (new_bytes written bytes))
-
--- without the last one
-pub acts_back : (written : List ℕ) (ks : List Kept) (acts : List Act) (act : Act) → acts_in written ks ≡ acts ++ act ∷ [] → acts_in written (take (length ks - 1) ks) ≡ acts
-acts_back written ks acts act is =
-    let size : length ks ≡ length acts + 1 = omega (arith, sym (length-map ks (act_in written)), ap length is, length-append acts (act ∷ [])) in
-    sym (take-map (act_in written) (length ks - 1) ks)
-    ∙ ap (λ l. take (length ks - 1) l) is
-    ∙ ap (λ n. take n (acts ++ act ∷ [])) (let e : length ks - 1 ≡ length acts = omega (arith, size) in e)
-    ∙ take-append-le (length acts) acts (act ∷ []) (omega arith) ∙ take_all (length acts) acts (omega arith)

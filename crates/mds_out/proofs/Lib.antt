@@ -1,4 +1,5 @@
 pub mod Acted
+pub mod Adding
 pub mod Calling
 pub mod Clauses
 pub mod Counting

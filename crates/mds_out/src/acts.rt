@@ -1,49 +1,32 @@
 //! All that was done to a disk in memory, oldest first.
-ghost use Rattle.std.specs.Prelude.{◌≡◌, ◌∷◌, ◌++◌, [], List, OnOk, OnErr};
+ghost use Rattle.std.specs.Prelude.{◌≡◌, ◌∷◌, ◌++◌, [], List, ℕ, length, OnOk, OnErr};
 ghost use Rattle.mds_out.specs.Change.{Write, Cut};
+ghost use Rattle.mds_out.specs.Kept.{act_of, bytes_in};
 ghost use Rattle.mds_out.specs.Past.{Act, Changed, Synced, Restarted};
 
+use crate::heads::{Head, Heads};
 use std::alloc::{AllocError, Global};
 use std::marker::Model;
 
-/// One thing that was done. A write names its bytes by their place among all bytes that were written.
-#[derive(Clone, Copy)]
-pub(crate) enum Kept {
-    Write {
-        file: u32,
-        at: usize,
-        from: usize,
-        len: usize,
-    },
-    Cut {
-        file: u32,
-        to: usize,
-    },
-    Synced {
-        file: u32,
-    },
-    Restarted,
-}
-
-/// All that was done, with the bytes that were written one behind the other, so that no write has a block of memory of
-/// its own.
+/// All that was done: the heads, and the bytes that were written one behind the other, so that no write has a block of
+/// memory of its own.
 #[derive(Drop)]
 pub(crate) struct Acts {
-    kept: Vec<Kept>,
+    heads: Heads,
     written: Vec<u8>,
 }
 
 impl Model for Acts {
-    ghost use Rattle.std.specs.Prelude.{List, length};
-    ghost use Rattle.std.specs.List.{AllByRecursion};
-    ghost use Rattle.mds_out.specs.Kept.{IsWithin, acts_in};
+    ghost use Rattle.std.specs.Prelude.{◌≡◌, List, length};
+    ghost use Rattle.std.specs.List.{sum_by};
+    ghost use Rattle.mds_out.specs.Kept.{acts_of, bytes_in};
     ghost use Rattle.mds_out.specs.Past.{Act};
 
     ghost Value = { List Act };
 
-    ghost view = { λ a. acts_in a.written.items a.kept.items };
+    ghost view = { λ a. acts_of a.written.items a.heads };
 
-    ghost invariant = { λ a. AllByRecursion (IsWithin (length a.written.items)) a.kept.items };
+    ghost invariant = { λ a. sum_by bytes_in a.heads ≡ length a.written.items };
 }
 
 impl Acts {
@@ -52,7 +35,7 @@ impl Acts {
         ensures { result ≡ [] }
     {
         Acts {
-            kept: Vec::new(alloc),
+            heads: Heads::new(alloc),
             written: Vec::new(alloc),
         }
     }
@@ -62,16 +45,13 @@ impl Acts {
         ensures ok { OnOk result (self.new ≡ self.old ++ Changed file (Write at bytes.now) ∷ []) }
         ensures err { OnErr result (self.new ≡ self.old) }
     {
-        self.kept.reserve(1)?;
-        let from = self.written.len();
-        self.written.extend_from_slice(bytes)?;
-        let kept = Kept::Write {
+        self.written.reserve(bytes.len())?;
+        self.heads.push(Head::Write {
             file,
             at,
-            from,
             len: bytes.len(),
-        };
-        if self.kept.push(kept).is_err() {
+        })?;
+        if self.written.extend_from_slice(bytes).is_err() {
             unreachable!();
         }
         Ok(())
@@ -82,8 +62,7 @@ impl Acts {
         ensures ok { OnOk result (self.new ≡ self.old ++ Changed file (Cut to) ∷ []) }
         ensures err { OnErr result (self.new ≡ self.old) }
     {
-        self.kept.push(Kept::Cut { file, to })?;
-        Ok(())
+        self.add(Head::Cut { file, to })
     }
 
     /// Adds a sync.
@@ -91,8 +70,7 @@ impl Acts {
         ensures ok { OnOk result (self.new ≡ self.old ++ Synced file ∷ []) }
         ensures err { OnErr result (self.new ≡ self.old) }
     {
-        self.kept.push(Kept::Synced { file })?;
-        Ok(())
+        self.add(Head::Synced { file })
     }
 
     /// Adds a restart.
@@ -100,14 +78,24 @@ impl Acts {
         ensures ok { OnOk result (self.new ≡ self.old ++ Restarted ∷ []) }
         ensures err { OnErr result (self.new ≡ self.old) }
     {
-        self.kept.push(Kept::Restarted)?;
-        Ok(())
+        self.add(Head::Restarted)
     }
 
-    /// Takes the last one away, which was not done after all. Its bytes stay, and nothing names them.
+    /// Takes the last one away, which was not done after all.
     pub(crate) fn take_back(&mut self)
         ensures { (acts : List Act) → (act : Act) → self.old ≡ acts ++ act ∷ [] → self.new ≡ acts }
     {
-        let _ = self.kept.pop();
+        if let Some(head) = self.heads.pop() {
+            self.written.truncate(self.written.len() - head.bytes());
+        }
+    }
+
+    // Adds one that wrote nothing.
+    fn add(&mut self, head: Head) -> Result<(), AllocError>
+        requires { bytes_in head ≡ 0 }
+        ensures ok { OnOk result (self.new ≡ self.old ++ act_of [] head ∷ []) }
+        ensures err { OnErr result (self.new ≡ self.old) }
+    {
+        self.heads.push(head)
     }
 }

@@ -25,6 +25,7 @@ mod file;
 mod fixed_clock;
 mod fuse;
 mod gate;
+mod heads;
 mod link;
 mod list_link;
 mod memory;

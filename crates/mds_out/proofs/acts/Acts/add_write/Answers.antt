@@ -1,18 +1,18 @@
-use Rattle.std.proofs.Common.{◌≡◌, ◌∙◌, ap, length, ◌++◌, ◌∷◌, [], arith, rules}
+use Rattle.std.proofs.Common.{◌≡◌, ◌∙◌, ap, length, ◌++◌, ◌∷◌, [], refl, rules}
 use Rattle.mds_out.specs.Past.{Changed}
 use Rattle.mds_out.specs.Change.{Write}
-use Rattle.mds_out.specs.declared.acts.Kept.TheVariants as kept
-use Rattle.mds_out.specs.Kept.{acts_in}
-use Rattle.mds_out.proofs.Kept.{acts_write}
+use Rattle.mds_out.specs.declared.heads.Head.TheVariants as head
+use Rattle.mds_out.specs.Kept.{acts_of}
+use Rattle.mds_out.proofs.Adding.{acts_push}
 use Rattle.mds_out.proofs.acts.Acts.add_write.Goals as goal
 
 pub returns-clause-ok : goal.returns-clause-ok
 returns-clause-ok c =
-    let i = c.self.inside in
-    let grown : c.extend_from_slice.new.self.items ≡ i.written.items ++ c.args.bytes.now = search rules in
-    let pushed : c.push.new.self.items ≡ i.kept.items ++ kept.Write c.args.file c.args.at c.len-from.result (length c.args.bytes.now) ∷ [] = search rules in
-    let from : c.len-from.result ≡ length i.written.items = omega (arith, c.len-from.ensures) in
-    ap (λ w. acts_in w c.push.new.self.items) grown
-    ∙ ap (acts_in (i.written.items ++ c.args.bytes.now)) (pushed ∙ ap (λ n. i.kept.items ++ kept.Write c.args.file c.args.at n (length c.args.bytes.now) ∷ []) from)
-    ∙ acts_write i.written.items c.args.bytes.now i.kept.items c.args.file c.args.at c.self.invariant
-    ∙ ap (λ l. l ++ Changed c.args.file (Write c.args.at c.args.bytes.now) ∷ []) c.self.view_is
+    let written = c.self.inside.written.items in
+    let bytes = c.args.bytes.now in
+    let h = head.Write c.args.file c.args.at (length bytes) in
+    let grown : c.extend_from_slice.new.self.items ≡ written ++ bytes = search rules in
+    let pushed : c.push.new.self ≡ c.self.inside.heads ++ h ∷ [] = search rules in
+    (λ i. acts_of (grown i) (pushed i))
+    ∙ acts_push written bytes c.self.inside.heads h c.self.invariant refl
+    ∙ ap (λ l. l ++ Changed c.args.file (Write c.args.at bytes) ∷ []) c.self.view_is
