@@ -1,5 +1,6 @@
 pub mod Numbers
 pub mod Decoding
+pub mod ToCome
 pub mod Fields
 pub mod Shapes
 pub mod Records

@@ -1,5 +1,5 @@
 -- Reading from left to right, on lists: what stands at the front and the bytes after it, or the first fault.
-use Rattle.std.specs.Prelude.{ℕ, zero, suc, ◌+◌, ◌-◌, ◌*◌, ◌/◌, ◌%◌, ◌^◌, List, [], ◌∷◌, length, take, drop, Result, Ok, Err, nat_lt, nat_le, ◌==◌, ◌&&◌, Bool, if◌then◌else◌, None, Some}
+use Rattle.std.specs.Prelude.{ℕ, zero, suc, ◌+◌, ◌-◌, ◌*◌, ◌/◌, ◌%◌, ◌^◌, List, [], ◌∷◌, ◌++◌, length, take, drop, Result, Ok, Err, nat_lt, nat_le, ◌==◌, ◌&&◌, Bool, if◌then◌else◌, None, Some}
 use Rattle.std.specs.List.{list_any}
 use Rattle.mds_base.specs.declared.call.Call.{Call}
 use Rattle.mds_base.specs.declared.call.Call.TheVariants.{Create, Mkdir, Remove, Setattr, Grab, Link, Seal, Unseal, Kill, Unlink}
@@ -37,6 +37,11 @@ number_after least most value (suc left) bytes = do
 -- a number of so many bytes, from least to most
 unfoldable pub number_at : ℕ → ℕ → ℕ → List ℕ → Result (ℕ × List ℕ) Fault
 number_at width least most bytes = number_after least most 0 width bytes
+
+-- so many elements behind some others; what an element may be goes by those before it and by how many follow it
+unfoldable pub list_after : {X : Type 0} → (List X → ℕ → List ℕ → Result (X × List ℕ) Fault) → List X → ℕ → List ℕ → Result (List X × List ℕ) Fault
+list_after item so_far zero bytes = Ok (so_far, bytes)
+list_after item so_far (suc left) bytes = item so_far left bytes >>= λ x. list_after item (so_far ++ x.0 ∷ []) left x.1
 
 -- the bytes from the first one on that stands in no name
 unfoldable pub from_foreign : List ℕ → List ℕ
