@@ -3,5 +3,7 @@ pub mod Decoding
 pub mod ToCome
 pub mod Fields
 pub mod Shapes
+pub mod Rows
+pub mod Loads
 pub mod Records
 pub mod Fronts

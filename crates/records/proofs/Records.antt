@@ -1,11 +1,11 @@
 -- The readers of calls, finals and records read them exactly.
-use Rattle.std.proofs.Common.{◌≡◌, ◌∙◌, sym, ap, subst, refl, ℕ, zero, suc, ◌+◌, ◌-◌, ◌*◌, ◌/◌, ◌%◌, ◌^◌, ◌<◌, ◌≤◌, ◌==◌, Bool, true, false, cond, List, [], ◌∷◌, ◌++◌, lit≤, lit<, arith, Option, Some, None, MatchOption, if◌then◌else◌, nat_lt, inl, inr, ◌⊎◌}
+use Rattle.std.proofs.Common.{◌≡◌, ◌∙◌, sym, ap, subst, refl, ℕ, zero, suc, ◌+◌, ◌-◌, ◌*◌, ◌/◌, ◌%◌, ◌^◌, ◌<◌, ◌≤◌, ◌==◌, Bool, true, false, cond, List, [], ◌∷◌, ◌++◌, length, lit≤, lit<, arith, Option, Some, None, MatchOption, min, nat_le, if◌then◌else◌, nat_lt, Result, Ok, inl, inr, ◌⊎◌}
 use Rattle.std.specs.Cmp.{eq_by_cmp_equiv}
 use Rattle.std.specs.FinMap as map
 use Rattle.std.specs.Int.{w32, w64, to_be_bytes, bytes_high_first, byte_at}
 use Rattle.std.proofs.Math.Nat.{div-div-eq-div-mul, div-one, mul_comm, pow-suc, pow-le-pow_right}
 use Rattle.std.proofs.lemmas.Bool.Decides.{nat_tests}
-use Rattle.std.proofs.lemmas.Bool.{eq-eqb, and_parts, and_from}
+use Rattle.std.proofs.lemmas.Bool.{eqb-true, eq-eqb, and_parts, and_from}
 use Rattle.std.proofs.lemmas.List.{append-nil}
 use Rattle.mds_base.specs.declared.attr.Attr.{Attr}
 use Rattle.mds_base.specs.declared.attr.Stamp.{Stamp}
@@ -15,23 +15,31 @@ use Rattle.mds_base.specs.declared.reply.Final.{Final}
 use Rattle.mds_base.specs.declared.reply.Final.TheVariants.{Created, CreatedDir, Exists, Removed, Missing, IsDir, Set, Ids, Loaded, Stale, Sealed, NotEmpty, Late, Opened, Killed}
 use Rattle.mds_base.specs.declared.reply.Reply.TheVariants.{Said}
 use Rattle.mds_base.specs.Entries.{Place, place_cmp, Entries, new_file, new_directory, is_file}
-use Rattle.mds_base.specs.PlainRules.{SealAllows}
+use Rattle.std.specs.List.{AllByRecursion}
+use Rattle.mds_base.specs.declared.row.Row.{Row}
+use Rattle.mds_base.specs.PlainRules.{SealAllows, added}
 use Rattle.mds_base.proofs.Places.{places_total}
 use Rattle.records.specs.declared.kinds.TheConstants as kinds
 use Rattle.records.specs.declared.record.Record.{Record}
 use Rattle.records.specs.declared.record.Record.TheVariants as records
 use Rattle.records.specs.declared.record.Record.TheVariants.{Head, Served, Begin, Install, End}
-use Rattle.records.specs.Spelling.{IsDirectory, IsChange, MaySay, IsNumbered, IsHead, IsServed, IsSplit, call_spelling, tag_of, number_of, final_spelling, split_spelling, Spells}
-use Rattle.records.specs.Reading.{byte_among, set_after, named_after, call_after, call_kinds, call_at, tags_of, least_of, most_of, final_of, is_low, sealed_at, final_at, head_at, served_at, is_depth, split_at, record_kinds, record_after, record_at}
+use Rattle.records.specs.Rows.{IsRow, AreRising, rows_spelling}
+use Rattle.records.specs.Spelling.{IsDirectory, IsLoad, IsChange, IsChangeBut, MaySay, IsNumbered, IsHead, IsServed, IsSplit, call_spelling, tag_of, number_of, final_spelling, split_spelling, SpellsBut, record_spelling}
+use Rattle.records.specs.declared.fault.Fault.{Fault}
+use Rattle.records.specs.Faults.{◌>>=◌}
+use Rattle.records.specs.Reading.{byte_among, set_after, named_after, other_after, call_after, rows_at, call_kinds, call_at, tags_of, least_of, most_of, final_of, is_low, sealed_at, final_at, head_at, served_at, is_depth, split_at, record_kinds, record_after, record_at}
 use Rattle.records.proofs.Decoding.{Follows, Seq, Ends, follows_here, by_test, both_follow, same_follows}
+use Rattle.records.proofs.ToCome.{Waits, Opens, Reads, Then, Goes, goes_plainly, go_in_turn, same_goes, goes_by_test}
+use Rattle.records.proofs.Rows.{RowsText, rows_read}
+use Rattle.records.proofs.Loads.{distinct_of, added_most, reached}
 use Rattle.records.proofs.Fields.{OneByte, is_among, among_reads, NumberOf, number_reads}
-use Rattle.records.proofs.Shapes.{Shape, Done, Byte, Number, Name, If, Args, Ranged, value_of, joined, Of, Sound, shape_reads, AllOf, each_of}
+use Rattle.records.proofs.Shapes.{Shape, Done, Byte, Number, Name, If, Args, Ranged, value_of, joined, Of, Sound, shape_reads, join_is, text_of, AllOf, each_of}
 
 -- ---- calls
 
 -- a call that a log keeps, and its spelling
-pub record CallText (text : List ℕ) (call : Call) : Type 0 where
-  pub change : IsChange call
+pub record CallText (missing : ℕ) (text : List ℕ) (call : Call) : Type 0 where
+  pub change : IsChangeBut missing call
   pub text_is : text ≡ call_spelling call
 
 -- the stamp of an owner and a time
@@ -110,82 +118,194 @@ below n most range = range.1
 
 -- what is read after a kind and a directory is a call of this kind, and its spelling
 abbrev OfKind : ℕ → Type 0
-OfKind kind = (dir : ℕ) → IsDirectory dir → (a : Args (after_shape kind dir)) → Ranged (after_shape kind dir) a → CallText (kind ∷ joined (to_be_bytes w64 dir) (after_shape kind dir) a) (value_of (after_shape kind dir) a)
+OfKind kind = (n dir : ℕ) → IsDirectory dir → (a : Args (after_shape kind dir)) → Ranged (after_shape kind dir) a → CallText n (kind ∷ joined (to_be_bytes w64 dir) (after_shape kind dir) a) (value_of (after_shape kind dir) a)
 
 create_made : OfKind kinds.CALL_CREATE
-create_made dir is a r = record { change = (is, r.0); text_is = refl }
+create_made n dir is a r = record { change = (is, r.0); text_is = refl }
 
 mkdir_made : OfKind kinds.CALL_MKDIR
-mkdir_made dir is a r = record { change = (is, r.0); text_is = refl }
+mkdir_made n dir is a r = record { change = (is, r.0); text_is = refl }
 
 remove_made : OfKind kinds.CALL_REMOVE
-remove_made dir is a r = record { change = (is, r.0); text_is = refl }
+remove_made n dir is a r = record { change = (is, r.0); text_is = refl }
 
 setattr_made : OfKind kinds.CALL_SETATTR
-setattr_made dir is a r = let size = r.1.1.0.1 in record { change = (is, r.0, r.1.0.1, omega arith, tt); text_is = refl }
+setattr_made n dir is a r = let size = r.1.1.0.1 in record { change = (is, r.0, r.1.0.1, omega arith, tt); text_is = refl }
 
 stamp_made : OfKind kinds.CALL_STAMP
-stamp_made dir is a r = let size = r.1.1.0.1 in let owner = r.1.1.1.0.1 in let mtime = r.1.1.1.1.0.1 in record { change = (is, r.0, r.1.0.1, omega arith, (omega arith, omega arith)); text_is = refl }
+stamp_made n dir is a r = let size = r.1.1.0.1 in let owner = r.1.1.1.0.1 in let mtime = r.1.1.1.1.0.1 in record { change = (is, r.0, r.1.0.1, omega arith, (omega arith, omega arith)); text_is = refl }
 
 grab_made : OfKind kinds.CALL_GRAB
-grab_made dir is a r = record { change = (is, r.0, r.1.0.0, r.1.0.1); text_is = refl }
+grab_made n dir is a r = record { change = (is, r.0, r.1.0.0, r.1.0.1); text_is = refl }
 
 link_made : OfKind kinds.CALL_LINK
-link_made dir is a r = record { change = (is, r.0, in_directory a.1.0 r.1.0); text_is = refl }
+link_made n dir is a r = record { change = (is, r.0, in_directory a.1.0 r.1.0); text_is = refl }
 
 unlink_made : OfKind kinds.CALL_UNLINK
-unlink_made dir is a r = record { change = (is, r.0, in_directory a.1.0 r.1.0); text_is = refl }
+unlink_made n dir is a r = record { change = (is, r.0, in_directory a.1.0 r.1.0); text_is = refl }
 
 seal_made : OfKind kinds.CALL_SEAL
-seal_made dir is a r = let part = r.0.1 in let e = r.1.0.1 in record { change = (is, omega arith, omega arith); text_is = refl }
+seal_made n dir is a r = let part = r.0.1 in let e = r.1.0.1 in record { change = (is, omega arith, omega arith); text_is = refl }
 
 unseal_made : OfKind kinds.CALL_UNSEAL
-unseal_made dir is a r = let part = r.0.1 in let e = r.1.0.1 in record { change = (is, omega arith, omega arith); text_is = refl }
+unseal_made n dir is a r = let part = r.0.1 in let e = r.1.0.1 in record { change = (is, omega arith, omega arith); text_is = refl }
 
 kill_made : OfKind kinds.CALL_KILL
-kill_made dir is a r = let e = r.0.1 in record { change = (is, omega arith); text_is = refl }
+kill_made n dir is a r = let e = r.0.1 in record { change = (is, omega arith); text_is = refl }
 
-calls_made : AllOf OfKind call_kinds
-calls_made = (create_made, (mkdir_made, (remove_made, (setattr_made, (grab_made, (link_made, (stamp_made, (seal_made, (unseal_made, (kill_made, (unlink_made, tt)))))))))))
+-- what is made of a kind other than a load's
+abbrev OfOther : ℕ → Type 0
+OfOther kind = (kind == kinds.CALL_LOAD) ≡ false → OfKind kind
 
-call_there : (text : List ℕ) (call : Call) → Of call_shape text call → CallText text call
-call_there text call o =
-    let made = each_of OfKind call_kinds calls_made o.args.0 o.ranged.0.1 o.args.1.0 (in_directory o.args.1.0 o.ranged.1.0) o.args.1.1 o.ranged.1.1 in
-    subst (CallText text) (sym o.value_is) (record { change = made.change; text_is = o.text_is ∙ made.text_is })
+calls_made : AllOf OfOther call_kinds
+calls_made = (λ _. create_made, (λ _. mkdir_made, (λ _. remove_made, (λ _. setattr_made, (λ _. grab_made, (λ load. absurd cc, (λ _. link_made, (λ _. stamp_made, (λ _. seal_made, (λ _. unseal_made, (λ _. kill_made, (λ _. unlink_made, tt))))))))))))
 
-call_back : (text : List ℕ) (call : Call) → CallText text call → Of call_shape text call
-call_back text (Create dir name) s = record { args = (kinds.CALL_CREATE, (dir, (name, tt))); ranged = ((lit< tt, refl), (of_directory dir s.change.0, (s.change.1, tt))); text_is = s.text_is; value_is = refl }
-call_back text (Mkdir dir name) s = record { args = (kinds.CALL_MKDIR, (dir, (name, tt))); ranged = ((lit< tt, refl), (of_directory dir s.change.0, (s.change.1, tt))); text_is = s.text_is; value_is = refl }
-call_back text (Remove dir name) s = record { args = (kinds.CALL_REMOVE, (dir, (name, tt))); ranged = ((lit< tt, refl), (of_directory dir s.change.0, (s.change.1, tt))); text_is = s.text_is; value_is = refl }
-call_back text (Setattr dir name mode size None) s =
-    let fits = s.change.3 in
-    record { args = (kinds.CALL_SETATTR, (dir, (name, (mode, (size, tt))))); ranged = ((lit< tt, refl), (of_directory dir s.change.0, (s.change.1, ((omega arith, s.change.2), ((omega arith, omega arith), tt))))); text_is = s.text_is; value_is = refl }
-call_back text (Setattr dir name mode size (Some stamp)) s =
+-- a load of a directory
+pub record LoadText (dir missing : ℕ) (text : List ℕ) (call : Call) : Type 0 where
+  pub rows : List Row
+  pub call_is : call ≡ Load dir rows
+  pub load : IsLoad missing rows
+  pub text_is : text ≡ rows_spelling false rows
+
+abbrev LoadParts : ℕ → ℕ → List ℕ → Call → Type 0
+LoadParts dir = Then (RowsText false 1 4096) (λ rows _. Ends (Load dir rows))
+
+load_there : (dir n : ℕ) (text : List ℕ) (call : Call) → LoadParts dir n text call → LoadText dir n text call
+load_there dir n text call s =
+    let none = s.second.none in
+    let r = s.first in
+    let same : n - length s.back ≡ n = let long = ap length none in omega arith in
+    record {
+      rows = s.value;
+      call_is = s.second.is;
+      load = record { some = r.some; few = r.few; rising = subst (λ (m : ℕ). AreRising false m None s.value) same r.rising; each = r.each };
+      text_is = s.parts ∙ ap (λ (u : List ℕ). s.front ++ u) none ∙ append-nil s.front ∙ r.text_is;
+    }
+
+load_back : (dir n : ℕ) (text : List ℕ) (call : Call) → LoadText dir n text call → LoadParts dir n text call
+load_back dir n text call s =
+    let same : n ≡ n - 0 = omega arith in
+    record {
+      front = text;
+      back = [];
+      value = s.rows;
+      parts = sym (append-nil text);
+      first = record { some = s.load.some; few = s.load.few; rising = subst (λ (m : ℕ). AreRising false m None s.rows) same s.load.rising; each = s.load.each; due = λ is _. absurd cc; text_is = s.text_is };
+      second = record { none = refl; is = s.call_is };
+    }
+
+load_goes : (dir : ℕ) → Goes (LoadText dir) (λ bytes. rows_at false 1 4096 bytes >>= λ rows. Ok (Load dir rows.0, rows.1))
+load_goes dir = same_goes (load_there dir) (load_back dir) (go_in_turn (rows_read false 1 4096 (lit≤ tt) (lit< tt)) (λ text rows s. (goes_plainly (follows_here (Load dir rows))).reads) (λ n text rows s. (goes_plainly (follows_here (Load dir rows))).opens))
+
+other_parts : (kind dir : ℕ) → Follows (Of (after_shape kind dir)) (other_after kind dir)
+unfolding other_after named_after set_after
+other_parts kind dir = shape_reads (after_shape kind dir) (after_sound kind dir)
+
+-- what follows a kind and a directory
+abbrev CallRest : ℕ → ℕ → ℕ → List ℕ → Call → Type 0
+CallRest kind dir n text call = cond (kind == kinds.CALL_LOAD) (LoadText dir n text call) (Of (after_shape kind dir) text call)
+
+rest_goes : (kind dir : ℕ) → Goes (CallRest kind dir) (call_after kind dir)
+unfolding call_after
+rest_goes kind dir = goes_by_test (kind == kinds.CALL_LOAD) (λ _. load_goes dir) (λ _. goes_plainly (other_parts kind dir))
+
+abbrev CallParts : ℕ → List ℕ → Call → Type 0
+CallParts = Then (λ _. OneByte (is_among call_kinds)) (λ kind. Then (λ _. NumberOf 8 1 (2 ^ 48 - 1)) (λ dir. CallRest kind dir))
+
+-- what asks nothing of bytes to come, and then what may
+go_after : {X Y : Type 0} {G : List ℕ → X → Type 0} {H : X → ℕ → List ℕ → Y → Type 0} {f : List ℕ → Result (X × List ℕ) Fault} {g : X → List ℕ → Result (Y × List ℕ) Fault} → Follows G f → ((x : X) → Goes (H x) (g x)) → Goes (Then (λ _. G) H) (λ bytes. f bytes >>= λ p. g p.0 p.1)
+go_after one next = go_in_turn (goes_plainly one) (λ text x s. (next x).reads) (λ n text x s. (next x).opens)
+
+call_parts : Goes CallParts call_at
+unfolding call_at
+call_parts = go_after (among_reads call_kinds kinds.CALL_CREATE (lit< tt) refl) (λ kind. go_after (number_reads 1 (2 ^ 48 - 1) (lit≤ tt) 8 (lit< tt)) (λ dir. rest_goes kind dir))
+
+-- what is read along the shape of another call
+shape_parts : (n : ℕ) (text : List ℕ) (call : Call) (o : Of call_shape text call) → (o.args.0 == kinds.CALL_LOAD) ≡ false → CallParts n text call
+shape_parts n text call o other = record {
+  front = o.args.0 ∷ [];
+  back = joined (to_be_bytes w64 o.args.1.0) (after_shape o.args.0 o.args.1.0) o.args.1.1;
+  value = o.args.0;
+  parts = o.text_is;
+  first = record { text_is = refl; byte = o.ranged.0.0; passes = o.ranged.0.1 };
+  second = record {
+    front = to_be_bytes w64 o.args.1.0;
+    back = text_of (after_shape o.args.0 o.args.1.0) o.args.1.1;
+    value = o.args.1.0;
+    parts = join_is (to_be_bytes w64 o.args.1.0) (after_shape o.args.0 o.args.1.0) o.args.1.1;
+    first = record { low = o.ranged.1.0.0; high = o.ranged.1.0.1; text_is = refl };
+    second = subst (λ (b : Bool). cond b (LoadText o.args.1.0 n (text_of (after_shape o.args.0 o.args.1.0) o.args.1.1) call) (Of (after_shape o.args.0 o.args.1.0) (text_of (after_shape o.args.0 o.args.1.0) o.args.1.1) call)) (sym other) (record { args = o.args.1.1; ranged = o.ranged.1.1; text_is = refl; value_is = o.value_is });
+  };
+}
+
+call_there : (n : ℕ) (text : List ℕ) (call : Call) → CallParts n text call → CallText n text call
+call_there n text call s = go (s.value == kinds.CALL_LOAD) refl s.second.second
+  where
+    d : Then (λ _. NumberOf 8 1 (2 ^ 48 - 1)) (λ dir. CallRest s.value dir) n s.back call
+    d = s.second
+
+    front : text ≡ s.value ∷ (to_be_bytes w64 d.value ++ d.back)
+    front = s.parts ∙ ap (λ (t : List ℕ). t ++ s.back) s.first.text_is ∙ ap (λ (t : List ℕ). s.value ∷ t) (d.parts ∙ ap (λ (t : List ℕ). t ++ d.back) d.first.text_is)
+
+    go : (b : Bool) → (s.value == kinds.CALL_LOAD) ≡ b → cond b (LoadText d.value n d.back call) (Of (after_shape s.value d.value) d.back call) → CallText n text call
+    go true is l =
+        let load : s.value ≡ kinds.CALL_LOAD = eqb-true s.value kinds.CALL_LOAD is in
+        subst (CallText n text) (sym l.call_is) (record { change = (in_directory d.value (d.first.low, d.first.high), l.load); text_is = front ∙ ap (λ (k : ℕ). k ∷ (to_be_bytes w64 d.value ++ d.back)) load ∙ ap (λ (t : List ℕ). kinds.CALL_LOAD ∷ (to_be_bytes w64 d.value ++ t)) l.text_is })
+    go false other o =
+        let made = each_of OfOther call_kinds calls_made s.value s.first.passes other n d.value (in_directory d.value (d.first.low, d.first.high)) o.args o.ranged in
+        let joins = join_is (to_be_bytes w64 d.value) (after_shape s.value d.value) o.args in
+        subst (CallText n text) (sym o.value_is) (record { change = made.change; text_is = front ∙ ap (λ (t : List ℕ). s.value ∷ (to_be_bytes w64 d.value ++ t)) o.text_is ∙ ap (λ (t : List ℕ). s.value ∷ t) (sym joins) ∙ made.text_is })
+
+call_back : (n : ℕ) (text : List ℕ) (call : Call) → CallText n text call → CallParts n text call
+call_back n text (Load dir rows) s = record {
+  front = kinds.CALL_LOAD ∷ [];
+  back = to_be_bytes w64 dir ++ rows_spelling false rows;
+  value = kinds.CALL_LOAD;
+  parts = s.text_is;
+  first = record { text_is = refl; byte = lit< tt; passes = refl };
+  second = record {
+    front = to_be_bytes w64 dir;
+    back = rows_spelling false rows;
+    value = dir;
+    parts = refl;
+    first = record { low = (of_directory dir s.change.0).0; high = (of_directory dir s.change.0).1; text_is = refl };
+    second = record { rows = rows; call_is = refl; load = s.change.1; text_is = refl };
+  };
+}
+call_back n text (Create dir name) s =
+    shape_parts n text (Create dir name) (record { args = (kinds.CALL_CREATE, (dir, (name, tt))); ranged = ((lit< tt, refl), (of_directory dir s.change.0, (s.change.1, tt))); text_is = s.text_is; value_is = refl }) refl
+call_back n text (Mkdir dir name) s =
+    shape_parts n text (Mkdir dir name) (record { args = (kinds.CALL_MKDIR, (dir, (name, tt))); ranged = ((lit< tt, refl), (of_directory dir s.change.0, (s.change.1, tt))); text_is = s.text_is; value_is = refl }) refl
+call_back n text (Remove dir name) s =
+    shape_parts n text (Remove dir name) (record { args = (kinds.CALL_REMOVE, (dir, (name, tt))); ranged = ((lit< tt, refl), (of_directory dir s.change.0, (s.change.1, tt))); text_is = s.text_is; value_is = refl }) refl
+call_back n text (Setattr dir name mode size None) s =
+    let fits = s.change.3 in shape_parts n text (Setattr dir name mode size None) (record { args = (kinds.CALL_SETATTR, (dir, (name, (mode, (size, tt))))); ranged = ((lit< tt, refl), (of_directory dir s.change.0, (s.change.1, ((omega arith, s.change.2), ((omega arith, omega arith), tt))))); text_is = s.text_is; value_is = refl }) refl
+call_back n text (Setattr dir name mode size (Some stamp)) s =
     let fits = s.change.3 in
     let owner = s.change.4.0 in
-    let mtime = s.change.4.1 in
-    record {
+    let mtime = s.change.4.1 in shape_parts n text (Setattr dir name mode size (Some stamp)) (record {
       args = (kinds.CALL_STAMP, (dir, (name, (mode, (size, (stamp.owner, (stamp.mtime, tt)))))));
       ranged = ((lit< tt, refl), (of_directory dir s.change.0, (s.change.1, ((omega arith, s.change.2), ((omega arith, omega arith), ((omega arith, omega arith), ((omega arith, omega arith), tt)))))));
       text_is = s.text_is;
       value_is = refl;
-    }
-call_back text (Grab dir name count) s = record { args = (kinds.CALL_GRAB, (dir, (name, (count, tt)))); ranged = ((lit< tt, refl), (of_directory dir s.change.0, (s.change.1, ((s.change.2, s.change.3), tt)))); text_is = s.text_is; value_is = refl }
-call_back text (Link dir name id) s = record { args = (kinds.CALL_LINK, (dir, (name, (id, tt)))); ranged = ((lit< tt, refl), (of_directory dir s.change.0, (s.change.1, (of_directory id s.change.2, tt)))); text_is = s.text_is; value_is = refl }
-call_back text (Unlink dir name id) s = record { args = (kinds.CALL_UNLINK, (dir, (name, (id, tt)))); ranged = ((lit< tt, refl), (of_directory dir s.change.0, (s.change.1, (of_directory id s.change.2, tt)))); text_is = s.text_is; value_is = refl }
-call_back text (Seal dir part e) s = let low = s.change.1 in let high = s.change.2 in record { args = (kinds.CALL_SEAL, (dir, (part, (e, tt)))); ranged = ((lit< tt, refl), (of_directory dir s.change.0, ((omega arith, omega arith), ((omega arith, omega arith), tt)))); text_is = s.text_is; value_is = refl }
-call_back text (Unseal dir part e) s = let low = s.change.1 in let high = s.change.2 in record { args = (kinds.CALL_UNSEAL, (dir, (part, (e, tt)))); ranged = ((lit< tt, refl), (of_directory dir s.change.0, ((omega arith, omega arith), ((omega arith, omega arith), tt)))); text_is = s.text_is; value_is = refl }
-call_back text (Kill dir e) s = let high = s.change.1 in record { args = (kinds.CALL_KILL, (dir, (e, tt))); ranged = ((lit< tt, refl), (of_directory dir s.change.0, ((omega arith, omega arith), tt))); text_is = s.text_is; value_is = refl }
-call_back text (Lookup dir name) s = absurd s.change
-call_back text (Scan dir) s = absurd s.change
-call_back text (Load dir rows) s = absurd s.change
+    }) refl
+call_back n text (Grab dir name count) s =
+    shape_parts n text (Grab dir name count) (record { args = (kinds.CALL_GRAB, (dir, (name, (count, tt)))); ranged = ((lit< tt, refl), (of_directory dir s.change.0, (s.change.1, ((s.change.2, s.change.3), tt)))); text_is = s.text_is; value_is = refl }) refl
+call_back n text (Link dir name id) s =
+    shape_parts n text (Link dir name id) (record { args = (kinds.CALL_LINK, (dir, (name, (id, tt)))); ranged = ((lit< tt, refl), (of_directory dir s.change.0, (s.change.1, (of_directory id s.change.2, tt)))); text_is = s.text_is; value_is = refl }) refl
+call_back n text (Unlink dir name id) s =
+    shape_parts n text (Unlink dir name id) (record { args = (kinds.CALL_UNLINK, (dir, (name, (id, tt)))); ranged = ((lit< tt, refl), (of_directory dir s.change.0, (s.change.1, (of_directory id s.change.2, tt)))); text_is = s.text_is; value_is = refl }) refl
+call_back n text (Seal dir part e) s =
+    let low = s.change.1 in let high = s.change.2 in shape_parts n text (Seal dir part e) (record { args = (kinds.CALL_SEAL, (dir, (part, (e, tt)))); ranged = ((lit< tt, refl), (of_directory dir s.change.0, ((omega arith, omega arith), ((omega arith, omega arith), tt)))); text_is = s.text_is; value_is = refl }) refl
+call_back n text (Unseal dir part e) s =
+    let low = s.change.1 in let high = s.change.2 in shape_parts n text (Unseal dir part e) (record { args = (kinds.CALL_UNSEAL, (dir, (part, (e, tt)))); ranged = ((lit< tt, refl), (of_directory dir s.change.0, ((omega arith, omega arith), ((omega arith, omega arith), tt)))); text_is = s.text_is; value_is = refl }) refl
+call_back n text (Kill dir e) s =
+    let high = s.change.1 in shape_parts n text (Kill dir e) (record { args = (kinds.CALL_KILL, (dir, (e, tt))); ranged = ((lit< tt, refl), (of_directory dir s.change.0, ((omega arith, omega arith), tt))); text_is = s.text_is; value_is = refl }) refl
+call_back n text (Lookup dir name) s = absurd s.change
+call_back n text (Scan dir) s = absurd s.change
 
-call_parts : Follows (Of call_shape) call_at
-unfolding call_at call_after named_after set_after byte_among
-call_parts = shape_reads call_shape call_sound
-
-pub call_reads : Follows CallText call_at
-call_reads = same_follows call_there call_back call_parts
+pub call_goes : Goes CallText call_at
+call_goes = same_goes call_there call_back call_parts
 
 -- ---- finals
 
@@ -218,6 +338,10 @@ link_range : (id : ℕ) (a : Bool) → IsDirectory id → IsRange (cond a id 0) 
 link_range id true is = let high = is.1 in (omega arith, omega arith)
 link_range id false is = (lit≤ tt, lit< tt)
 
+load_range : (count : ℕ) (a : Bool) → IsRange 0 (cond a (min count 4096) 0)
+load_range count true = (omega arith, omega arith)
+load_range count false = (lit≤ tt, lit< tt)
+
 in_range : (call : Call) → IsChange call → (tag : ℕ) → IsRange (least_of call tag) (most_of call tag)
 in_range (Create dir name) change tag = range_of (tag == kinds.FINAL_CREATED_DIR) (tag == kinds.FINAL_IDS)
 in_range (Mkdir dir name) change tag = range_of (tag == kinds.FINAL_CREATED_DIR) (tag == kinds.FINAL_IDS)
@@ -231,7 +355,7 @@ in_range (Kill dir epoch) change tag = range_of (tag == kinds.FINAL_CREATED_DIR)
 in_range (Unlink dir name id) change tag = range_of (tag == kinds.FINAL_CREATED_DIR) (tag == kinds.FINAL_IDS)
 in_range (Lookup dir name) change tag = absurd change
 in_range (Scan dir) change tag = absurd change
-in_range (Load dir rows) change tag = absurd change
+in_range (Load dir rows) change tag = load_range (length rows) (tag == kinds.FINAL_LOADED)
 
 -- a tag that the call may get
 abbrev SomeTag : Call → Type 0
@@ -250,7 +374,7 @@ some_tag (Kill dir epoch) change = (kinds.FINAL_LATE, lit< tt, refl)
 some_tag (Unlink dir name id) change = (kinds.FINAL_EXISTS, lit< tt, refl)
 some_tag (Lookup dir name) change = absurd change
 some_tag (Scan dir) change = absurd change
-some_tag (Load dir rows) change = absurd change
+some_tag (Load dir rows) change = (kinds.FINAL_STALE, lit< tt, refl)
 
 sealed_sound : Sound sealed_shape
 sealed_sound = (omega arith, lit< tt, λ high _ _. ((0, lit< tt, refl), λ low _. tt))
@@ -374,7 +498,14 @@ finals_made (Unlink dir name id) change =
     )
 finals_made (Lookup dir name) change = absurd change
 finals_made (Scan dir) change = absurd change
-finals_made (Load dir rows) change = absurd change
+finals_made (Load dir rows) change = (
+  λ a r.
+      let few : a.0 ≤ length rows = let high = r.0.1 in omega arith in
+      let most : a.0 ≤ 4096 = let high = r.0.1 in omega arith in
+      let on = reached dir rows a.0 (distinct_of false None rows change.1.rising) few in
+      record { reply = (on.0, inl (ap (λ (n : ℕ). Said (Loaded n)) on.1)); numbered = most; text_is = refl },
+  (λ a r. plain (Load dir rows) Stale a.0 refl tt (nothing, inr refl) r.0.1, tt),
+)
 
 final_there : (call : Call) → IsChange call → (text : List ℕ) (said : Final) → Of (final_shape call) text said → FinalText call text said
 final_there call change text said o =
@@ -450,6 +581,11 @@ seal_read dir part e (Loaded count) entries may numbered = absurd may
 seal_read dir part e Stale entries may numbered = absurd may
 seal_read dir part e Opened entries may numbered = absurd may
 
+loaded_read : (dir : ℕ) (rows : List Row) (said : Final) (entries : Entries) → length rows ≤ 4096 → Said said ≡ Said (Loaded (added entries dir rows)) → Read (Load dir rows) said
+loaded_read dir rows said entries few e =
+    let most = added_most entries dir rows in
+    read_as (Load dir rows) (Loaded (added entries dir rows)) said e (record { args = (kinds.FINAL_LOADED, (added entries dir rows, tt)); ranged = ((lit< tt, refl), ((omega arith, omega arith), tt)); text_is = refl; value_is = refl })
+
 read_of : (call : Call) (said : Final) → IsChange call → MaySay call said → IsNumbered said → Read call said
 read_of (Create dir name) said change may numbered = elim (one_of_two (map.get may.0 (dir, name)) _ _ may.1) [
   | inl e ↦ read_as (Create dir name) Created said e (record { args = (kinds.FINAL_CREATED, (0, tt)); ranged = ((lit< tt, refl), (zeros, tt)); text_is = refl; value_is = refl })
@@ -487,7 +623,10 @@ read_of (Unlink dir name id) said change may numbered = elim (one_of_two (map.ge
 ]
 read_of (Lookup dir name) said change may numbered = absurd change
 read_of (Scan dir) said change may numbered = absurd change
-read_of (Load dir rows) said change may numbered = absurd change
+read_of (Load dir rows) said change may numbered = elim may.1 [
+  | inl e ↦ loaded_read dir rows said may.0 change.1.few e
+  | inr e ↦ read_as (Load dir rows) Stale said e (record { args = (kinds.FINAL_STALE, (0, tt)); ranged = ((lit< tt, refl), (zeros, tt)); text_is = refl; value_is = refl })
+]
 
 final_back : (call : Call) → IsChange call → (text : List ℕ) (said : Final) → FinalText call text said → Of (final_shape call) text said
 final_back call change text said s = let r = read_of call said change s.reply s.numbered in record { args = r.args; ranged = r.ranged; text_is = s.text_is ∙ r.text_is; value_is = r.value_is }
@@ -498,6 +637,22 @@ final_parts call change = shape_reads (final_shape call) (final_sound call chang
 
 pub final_reads : (call : Call) → IsChange call → Follows (FinalText call) (final_at call)
 final_reads call change = same_follows (final_there call change) (final_back call change) (final_parts call change)
+
+-- some final may be said to each call, also to one whose rows are still to come
+final_opens : (n : ℕ) (call : Call) → IsChangeBut n call → Opens (λ _. FinalText call)
+final_opens n (Create dir name) change = (goes_plainly (final_reads (Create dir name) change)).opens
+final_opens n (Mkdir dir name) change = (goes_plainly (final_reads (Mkdir dir name) change)).opens
+final_opens n (Remove dir name) change = (goes_plainly (final_reads (Remove dir name) change)).opens
+final_opens n (Setattr dir name mode size stamp) change = (goes_plainly (final_reads (Setattr dir name mode size stamp) change)).opens
+final_opens n (Grab dir name count) change = (goes_plainly (final_reads (Grab dir name count) change)).opens
+final_opens n (Link dir name id) change = (goes_plainly (final_reads (Link dir name id) change)).opens
+final_opens n (Seal dir part epoch) change = (goes_plainly (final_reads (Seal dir part epoch) change)).opens
+final_opens n (Unseal dir part epoch) change = (goes_plainly (final_reads (Unseal dir part epoch) change)).opens
+final_opens n (Kill dir epoch) change = (goes_plainly (final_reads (Kill dir epoch) change)).opens
+final_opens n (Unlink dir name id) change = (goes_plainly (final_reads (Unlink dir name id) change)).opens
+final_opens n (Load dir rows) change = record { waits = record { looser = λ m n text said le s. s }; text = final_spelling Stale; value = Stale; spelled = record { reply = (nothing, inr refl); numbered = tt; text_is = refl } }
+final_opens n (Lookup dir name) change = absurd change
+final_opens n (Scan dir) change = absurd change
 
 -- ---- heads
 
@@ -580,31 +735,45 @@ head_reads = same_follows head_there head_back head_parts
 -- ---- changes with their replies
 
 -- a change with its reply, and its spelling
-pub record ServedText (text : List ℕ) (item : Record) : Type 0 where
+pub record ServedText (missing : ℕ) (text : List ℕ) (item : Record) : Type 0 where
   pub client : ℕ
   pub seq : ℕ
   pub part : ℕ
   pub call : Call
   pub said : Final
   pub item_is : item ≡ Served client seq part call said
-  pub served : IsServed client seq part call said
+  pub served : IsServed missing client seq part call said
   pub text_is : text ≡ to_be_bytes w32 client ++ (to_be_bytes w64 seq ++ (to_be_bytes w32 part ++ (call_spelling call ++ final_spelling said)))
 
-abbrev ServedParts : List ℕ → Record → Type 0
-ServedParts = Seq (NumberOf 4 1 64) (λ client. Seq (NumberOf 8 1 (2 ^ 64 - 1)) (λ seq. Seq (NumberOf 4 0 1023) (λ part. Seq CallText (λ call. Seq (FinalText call) (λ said. Ends (Served client seq part call said))))))
+-- a call and its final
+abbrev AnsweredParts : (Call → Final → Record) → ℕ → List ℕ → Record → Type 0
+AnsweredParts made = Then CallText (λ call _. Seq (FinalText call) (λ said. Ends (made call said)))
 
-served_parts : Follows ServedParts served_at
+answered_goes : (made : Call → Final → Record) → Goes (AnsweredParts made) (λ bytes. call_at bytes >>= λ call. final_at call.0 call.1 >>= λ said. Ok (made call.0 said.0, said.1))
+answered_goes made = go_in_turn call_goes (λ text call s. (goes_plainly (both_follow (final_reads call s.change) (λ t said f. follows_here (made call said)))).reads) (λ n text call s. answered_opens n call s.change)
+  where
+    answered_opens : (n : ℕ) (call : Call) → IsChangeBut n call → Opens (λ _. Seq (FinalText call) (λ said. Ends (made call said)))
+    answered_opens n call change =
+        let o = final_opens n call change in
+        record { waits = record { looser = λ m n text item le s. s }; text = o.text; value = made call o.value; spelled = record { front = o.text; back = []; value = o.value; parts = sym (append-nil o.text); first = o.spelled; second = record { none = refl; is = refl } } }
+
+abbrev ServedParts : ℕ → List ℕ → Record → Type 0
+ServedParts = Then (λ _. NumberOf 4 1 64) (λ client. Then (λ _. NumberOf 8 1 (2 ^ 64 - 1)) (λ seq. Then (λ _. NumberOf 4 0 1023) (λ part. AnsweredParts (Served client seq part))))
+
+served_parts : Goes ServedParts served_at
 unfolding served_at
-served_parts = both_follow (number_reads 1 64 (lit≤ tt) 4 (lit< tt)) (λ t client s. both_follow (number_reads 1 (2 ^ 64 - 1) (lit≤ tt) 8 (lit< tt)) (λ t seq s. both_follow (number_reads 0 1023 (lit≤ tt) 4 (lit< tt)) (λ t part s. both_follow call_reads (λ t call s. both_follow (final_reads call s.change) (λ t said s. follows_here (Served client seq part call said))))))
+served_parts = go_after (number_reads 1 64 (lit≤ tt) 4 (lit< tt)) (λ client. go_after (number_reads 1 (2 ^ 64 - 1) (lit≤ tt) 8 (lit< tt)) (λ seq. go_after (number_reads 0 1023 (lit≤ tt) 4 (lit< tt)) (λ part. answered_goes (Served client seq part))))
 
-served_there : (text : List ℕ) (item : Record) → ServedParts text item → ServedText text item
-served_there text item s =
+served_there : (n : ℕ) (text : List ℕ) (item : Record) → ServedParts n text item → ServedText n text item
+served_there n text item s =
     let q = s.second in
     let p = q.second in
     let c = p.second in
     let f = c.second in
     let seq_high = q.first.high in
     let part_high = p.first.high in
+    let end : c.back ≡ final_spelling f.value = f.parts ∙ ap (λ (u : List ℕ). u ++ f.back) f.first.text_is ∙ ap (λ (u : List ℕ). final_spelling f.value ++ u) f.second.none ∙ append-nil (final_spelling f.value) in
+    let nine : n - length c.back ≡ n - 9 = ap (λ (u : List ℕ). n - length u) end in
     record {
       client = s.value;
       seq = q.value;
@@ -612,15 +781,14 @@ served_there text item s =
       call = c.value;
       said = f.value;
       item_is = f.second.is;
-      served = record { some_client = s.first.low; few_clients = s.first.high; from_one = q.first.low; fits = omega arith; below = omega arith; change = c.first.change; reply = f.first.reply; numbered = f.first.numbered };
+      served = record { some_client = s.first.low; few_clients = s.first.high; from_one = q.first.low; fits = omega arith; below = omega arith; change = subst (λ (m : ℕ). IsChangeBut m c.value) nine c.first.change; reply = f.first.reply; numbered = f.first.numbered };
       text_is = s.parts ∙ ap (λ (u : List ℕ). u ++ s.back) s.first.text_is ∙ ap (λ (u : List ℕ). to_be_bytes w32 s.value ++ u) (q.parts ∙ ap (λ (u : List ℕ). u ++ q.back) q.first.text_is
           ∙ ap (λ (u : List ℕ). to_be_bytes w64 q.value ++ u) (p.parts ∙ ap (λ (u : List ℕ). u ++ p.back) p.first.text_is
-          ∙ ap (λ (u : List ℕ). to_be_bytes w32 p.value ++ u) (c.parts ∙ ap (λ (u : List ℕ). u ++ c.back) c.first.text_is
-          ∙ ap (λ (u : List ℕ). call_spelling c.value ++ u) (f.parts ∙ ap (λ (u : List ℕ). u ++ f.back) f.first.text_is ∙ ap (λ (u : List ℕ). final_spelling f.value ++ u) f.second.none ∙ append-nil (final_spelling f.value)))));
+          ∙ ap (λ (u : List ℕ). to_be_bytes w32 p.value ++ u) (c.parts ∙ ap (λ (u : List ℕ). u ++ c.back) c.first.text_is ∙ ap (λ (u : List ℕ). call_spelling c.value ++ u) end)));
     }
 
-served_back : (text : List ℕ) (item : Record) → ServedText text item → ServedParts text item
-served_back text item s =
+served_back : (n : ℕ) (text : List ℕ) (item : Record) → ServedText n text item → ServedParts n text item
+served_back n text item s =
     let v = s.served in
     let fits = v.fits in
     let below = v.below in
@@ -661,8 +829,8 @@ served_back text item s =
       };
     }
 
-pub served_reads : Follows ServedText served_at
-served_reads = same_follows served_there served_back served_parts
+pub served_goes : Goes ServedText served_at
+served_goes = same_goes served_there served_back served_parts
 
 -- ---- splits
 
@@ -704,54 +872,65 @@ split_read kind dir part depth s =
 
 -- ---- records
 
-abbrev RecordBody : ℕ → List ℕ → Record → Type 0
-RecordBody kind text item = cond (kind == kinds.RECORD_HEAD) (HeadText text item) (cond (kind == kinds.RECORD_OPENED) (Ends records.Opened text item) (cond (kind == kinds.RECORD_SERVED) (ServedText text item) (Of (split_shape kind) text item)))
+abbrev RecordBody : ℕ → ℕ → List ℕ → Record → Type 0
+RecordBody kind n text item = cond (kind == kinds.RECORD_HEAD) (HeadText text item) (cond (kind == kinds.RECORD_OPENED) (Ends records.Opened text item) (cond (kind == kinds.RECORD_SERVED) (ServedText n text item) (Of (split_shape kind) text item)))
 
-abbrev RecordParts : List ℕ → Record → Type 0
-RecordParts = Seq (OneByte (is_among record_kinds)) RecordBody
+body_goes : (kind : ℕ) → Goes (RecordBody kind) (record_after kind)
+unfolding record_after
+body_goes kind = goes_by_test (kind == kinds.RECORD_HEAD) (λ _. goes_plainly head_reads) (λ _. goes_by_test (kind == kinds.RECORD_OPENED) (λ _. goes_plainly (follows_here records.Opened)) (λ _. goes_by_test (kind == kinds.RECORD_SERVED) (λ _. served_goes) (λ _. goes_plainly (split_reads kind))))
 
-record_parts : Follows RecordParts record_at
-unfolding record_at record_after
-record_parts = both_follow (among_reads record_kinds kinds.RECORD_HEAD (lit< tt) refl) (λ t kind s. by_test (kind == kinds.RECORD_HEAD) (λ _. head_reads) (λ _. by_test (kind == kinds.RECORD_OPENED) (λ _. follows_here records.Opened) (λ _. by_test (kind == kinds.RECORD_SERVED) (λ _. served_reads) (λ _. split_reads kind))))
+abbrev RecordParts : ℕ → List ℕ → Record → Type 0
+RecordParts = Then (λ _. OneByte (is_among record_kinds)) RecordBody
+
+record_parts : Goes RecordParts record_at
+unfolding record_at
+record_parts = go_after (among_reads record_kinds kinds.RECORD_HEAD (lit< tt) refl) body_goes
 
 -- what is read after a kind is a record of this kind, and its spelling
 abbrev IsBody : ℕ → Type 0
-IsBody kind = (text : List ℕ) (item : Record) → RecordBody kind text item → Spells (kind ∷ text) item
+IsBody kind = (n : ℕ) (text : List ℕ) (item : Record) → RecordBody kind n text item → SpellsBut n (kind ∷ text) item
 
 head_body : IsBody kinds.RECORD_HEAD
-head_body text item h = subst (Spells (kinds.RECORD_HEAD ∷ text)) (sym h.item_is) (h.head, ap (λ (t : List ℕ). kinds.RECORD_HEAD ∷ t) h.text_is)
+head_body n text item h = subst (SpellsBut n (kinds.RECORD_HEAD ∷ text)) (sym h.item_is) (h.head, ap (λ (t : List ℕ). kinds.RECORD_HEAD ∷ t) h.text_is)
 
 opened_body : IsBody kinds.RECORD_OPENED
-opened_body text item e = subst (Spells (kinds.RECORD_OPENED ∷ text)) (sym e.is) (tt, ap (λ (t : List ℕ). kinds.RECORD_OPENED ∷ t) e.none)
+opened_body n text item e = subst (SpellsBut n (kinds.RECORD_OPENED ∷ text)) (sym e.is) (tt, ap (λ (t : List ℕ). kinds.RECORD_OPENED ∷ t) e.none)
 
 served_body : IsBody kinds.RECORD_SERVED
-served_body text item v = subst (Spells (kinds.RECORD_SERVED ∷ text)) (sym v.item_is) (v.served, ap (λ (t : List ℕ). kinds.RECORD_SERVED ∷ t) v.text_is)
+served_body n text item v = subst (SpellsBut n (kinds.RECORD_SERVED ∷ text)) (sym v.item_is) (v.served, ap (λ (t : List ℕ). kinds.RECORD_SERVED ∷ t) v.text_is)
 
 begin_body : IsBody kinds.RECORD_BEGIN
-begin_body text item o = let m = split_made kinds.RECORD_BEGIN text item o in subst (Spells (kinds.RECORD_BEGIN ∷ text)) (sym m.3) (m.4, ap (λ (t : List ℕ). kinds.RECORD_BEGIN ∷ t) m.5)
+begin_body n text item o = let m = split_made kinds.RECORD_BEGIN text item o in subst (SpellsBut n (kinds.RECORD_BEGIN ∷ text)) (sym m.3) (m.4, ap (λ (t : List ℕ). kinds.RECORD_BEGIN ∷ t) m.5)
 
 end_body : IsBody kinds.RECORD_END
-end_body text item o = let m = split_made kinds.RECORD_END text item o in subst (Spells (kinds.RECORD_END ∷ text)) (sym m.3) (m.4, ap (λ (t : List ℕ). kinds.RECORD_END ∷ t) m.5)
+end_body n text item o = let m = split_made kinds.RECORD_END text item o in subst (SpellsBut n (kinds.RECORD_END ∷ text)) (sym m.3) (m.4, ap (λ (t : List ℕ). kinds.RECORD_END ∷ t) m.5)
 
 bodies : AllOf IsBody record_kinds
 bodies = (head_body, (opened_body, (served_body, (begin_body, (end_body, tt)))))
 
-record_there : (text : List ℕ) (item : Record) → RecordParts text item → Spells text item
-record_there text item s = subst (λ (t : List ℕ). Spells t item) (sym (s.parts ∙ ap (λ (t : List ℕ). t ++ s.back) s.first.text_is)) (each_of IsBody record_kinds bodies s.value s.first.passes s.back item s.second)
+record_there : (n : ℕ) (text : List ℕ) (item : Record) → RecordParts n text item → SpellsBut n text item
+record_there n text item s = subst (λ (t : List ℕ). SpellsBut n t item) (sym (s.parts ∙ ap (λ (t : List ℕ). t ++ s.back) s.first.text_is)) (each_of IsBody record_kinds bodies s.value s.first.passes n s.back item s.second)
 
 -- a kind, and what follows it
-body_of : (kind : ℕ) (text back : List ℕ) (item : Record) → kind < 256 → is_among record_kinds kind ≡ true → text ≡ kind ∷ back → RecordBody kind back item → RecordParts text item
-body_of kind text back item byte among is body = record { front = kind ∷ []; back = back; value = kind; parts = is; first = record { text_is = refl; byte = byte; passes = among }; second = body }
+body_of : (kind n : ℕ) (text back : List ℕ) (item : Record) → kind < 256 → is_among record_kinds kind ≡ true → text ≡ kind ∷ back → RecordBody kind n back item → RecordParts n text item
+body_of kind n text back item byte among is body = record { front = kind ∷ []; back = back; value = kind; parts = is; first = record { text_is = refl; byte = byte; passes = among }; second = body }
 
-record_back : (text : List ℕ) (item : Record) → Spells text item → RecordParts text item
-record_back text (Head format servers server threshold) s = body_of kinds.RECORD_HEAD text (format ∷ (to_be_bytes w32 servers ++ (to_be_bytes w32 server ++ to_be_bytes w32 threshold))) (Head format servers server threshold) (lit< tt) refl s.1 (record { format = format; servers = servers; server = server; threshold = threshold; item_is = refl; head = s.0; text_is = refl })
-record_back text records.Opened s = body_of kinds.RECORD_OPENED text [] records.Opened (lit< tt) refl s.1 (record { none = refl; is = refl })
-record_back text (Served client seq part call said) s =
-    body_of kinds.RECORD_SERVED text (to_be_bytes w32 client ++ (to_be_bytes w64 seq ++ (to_be_bytes w32 part ++ (call_spelling call ++ final_spelling said)))) (Served client seq part call said) (lit< tt) refl s.1
+record_back : (n : ℕ) (text : List ℕ) (item : Record) → SpellsBut n text item → RecordParts n text item
+record_back n text (Head format servers server threshold) s = body_of kinds.RECORD_HEAD n text (format ∷ (to_be_bytes w32 servers ++ (to_be_bytes w32 server ++ to_be_bytes w32 threshold))) (Head format servers server threshold) (lit< tt) refl s.1 (record { format = format; servers = servers; server = server; threshold = threshold; item_is = refl; head = s.0; text_is = refl })
+record_back n text records.Opened s = body_of kinds.RECORD_OPENED n text [] records.Opened (lit< tt) refl s.1 (record { none = refl; is = refl })
+record_back n text (Served client seq part call said) s =
+    body_of kinds.RECORD_SERVED n text (to_be_bytes w32 client ++ (to_be_bytes w64 seq ++ (to_be_bytes w32 part ++ (call_spelling call ++ final_spelling said)))) (Served client seq part call said) (lit< tt) refl s.1
     (record { client = client; seq = seq; part = part; call = call; said = said; item_is = refl; served = s.0; text_is = refl })
-record_back text (Begin dir part depth) s = body_of kinds.RECORD_BEGIN text (split_spelling dir part depth) (Begin dir part depth) (lit< tt) refl s.1 (split_read kinds.RECORD_BEGIN dir part depth s.0)
-record_back text (End dir part depth) s = body_of kinds.RECORD_END text (split_spelling dir part depth) (End dir part depth) (lit< tt) refl s.1 (split_read kinds.RECORD_END dir part depth s.0)
-record_back text (Install dir part depth bitmap sessions rows) s = absurd s.0
+record_back n text (Begin dir part depth) s = body_of kinds.RECORD_BEGIN n text (split_spelling dir part depth) (Begin dir part depth) (lit< tt) refl s.1 (split_read kinds.RECORD_BEGIN dir part depth s.0)
+record_back n text (End dir part depth) s = body_of kinds.RECORD_END n text (split_spelling dir part depth) (End dir part depth) (lit< tt) refl s.1 (split_read kinds.RECORD_END dir part depth s.0)
+record_back n text (Install dir part depth bitmap sessions rows) s = absurd s.0
 
-pub record_reads : Follows Spells record_at
-record_reads = same_follows record_there record_back record_parts
+pub record_goes : Goes SpellsBut record_at
+record_goes = same_goes record_there record_back record_parts
+
+-- records are read exactly
+pub record_reads : Reads SpellsBut record_at
+record_reads = record_goes.reads
+
+pub record_waits : Waits SpellsBut
+record_waits = record_goes.opens.waits
