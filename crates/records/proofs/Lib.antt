@@ -5,5 +5,7 @@ pub mod Fields
 pub mod Shapes
 pub mod Rows
 pub mod Loads
+pub mod Calls
+pub mod Finals
 pub mod Records
 pub mod Fronts

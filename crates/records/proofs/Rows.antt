@@ -1,14 +1,12 @@
 -- The readers of rows read them exactly, and rows that rise have different names.
-use Rattle.std.proofs.Common.{◌≡◌, ◌∙◌, sym, ap, subst, refl, ℕ, zero, suc, ◌+◌, ◌-◌, ◌^◌, ◌<◌, ◌≤◌, ◌==◌, ◌&&◌, ◌||◌, not, Bool, true, false, cond, List, [], ◌∷◌, ◌++◌, append_assoc, length, lit≤, lit<, arith, Ok, Option, Some, None, inl, inr}
+use Rattle.std.proofs.Common.{◌≡◌, ◌∙◌, sym, ap, subst, refl, ℕ, zero, suc, ◌-◌, ◌^◌, ◌<◌, ◌≤◌, ◌==◌, ◌&&◌, ◌||◌, not, Bool, true, false, cond, List, [], ◌∷◌, ◌++◌, append_assoc, length, lit≤, lit<, arith, Ok, Option, Some, None}
 use Rattle.std.specs.Prelude.{IsTrue}
-use Rattle.std.specs.Int.{w16, w32, w64, to_be_bytes}
-use Rattle.std.specs.List.{AllByRecursion, flat_map, slice_get, list_any}
-use Rattle.std.proofs.lemmas.Bool.{cases_Bool}
+use Rattle.std.specs.Int.{w32, to_be_bytes}
+use Rattle.std.specs.List.{AllByRecursion, flat_map, slice_get}
 use Rattle.std.proofs.lemmas.Bool.Decides.{nat_tests}
 use Rattle.std.proofs.lemmas.List.{append-nil, length-append}
 use Rattle.std.proofs.lemmas.List.Folds.{list_any-append}
 use Rattle.mds_base.proofs.Grow.{get_last}
-use Rattle.mds_base.specs.declared.attr.Attr.{Attr}
 use Rattle.mds_base.specs.declared.row.Row.{Row}
 use Rattle.mds_base.specs.Entries.{is_stamped}
 use Rattle.mds_base.specs.Name.{is_name}
@@ -18,10 +16,10 @@ use Rattle.records.specs.Faults.{◌>>=◌, Fails}
 use Rattle.records.specs.LeastFormats.{some_stamped_of}
 use Rattle.records.specs.Rows.{attr_spelling, row_spelling, rows_spelling, IsStamped, IsRow, last_of, comes_after, AreRising}
 use Rattle.records.specs.Reading.{rising_at, row_with, stamp_at, attr_at, must_be_stamped, row_at, list_after, rows_at}
-use Rattle.records.proofs.Decoding.{Follows, Ends, same_follows}
-use Rattle.records.proofs.ToCome.{Opens, Passing, Then, Goes, goes_plainly, tested_reads, go_in_turn, same_goes, Listed, list_goes}
+use Rattle.records.proofs.Decoding.{Follows, same_follows}
+use Rattle.records.proofs.ToCome.{Passing, Then, Goes, goes_plainly, tested_reads, go_in_turn, same_goes, Listed, list_goes}
 use Rattle.records.proofs.Fields.{NumberOf, number_reads, NameOf, name_reads}
-use Rattle.records.proofs.Shapes.{Shape, Done, Byte, Number, Name, If, Args, Ranged, value_of, Of, Sound, shape_reads}
+use Rattle.records.proofs.Shapes.{Shape, Done, Number, If, Of, Sound, shape_reads}
 
 -- ---- the attributes of a row
 

@@ -1,6 +1,5 @@
-use Rattle.std.proofs.Common.{◌≡◌, ◌∙◌, sym, ap, subst, ℕ, suc, ◌-◌, ◌+◌, List, arith, Result, Ok}
+use Rattle.std.proofs.Common.{◌≡◌, ◌∙◌, sym, ap, subst, ℕ, suc, ◌-◌, ◌+◌, List, arith, Ok}
 use Rattle.mds_base.specs.declared.row.Row.{Row}
-use Rattle.records.specs.declared.fault.Fault.{Fault}
 use Rattle.records.specs.Faults.{Fails}
 use Rattle.records.specs.Reading.{list_after, row_at}
 use Rattle.records.proofs.Rows.{list_step, list_fails, list_done}
