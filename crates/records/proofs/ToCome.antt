@@ -403,7 +403,11 @@ same_goes there back one =
         again = λ text x rest s. r.again text x rest (back 0 text x s);
         short = λ bytes fits e. let b = r.short bytes fits e in record { more = b.more; value = b.value; some = b.some; spelled = there (length b.more) (bytes ++ b.more) b.value b.spelled };
         bad = λ bytes left fits e. let s = r.bad bytes left fits e in record {
-          front = s.front; byte = s.byte; rest = s.rest; parts = s.parts; left_is = s.left_is;
+          front = s.front;
+          byte = s.byte;
+          rest = s.rest;
+          parts = s.parts;
+          left_is = s.left_is;
           started = record { more = s.started.more; value = s.started.value; some = s.started.some; spelled = there (length s.started.more) (s.front ++ s.started.more) s.started.value s.started.spelled };
           never = λ more x k. s.never more x (back (length more) (s.front ++ s.byte ∷ more) x k);
         };
