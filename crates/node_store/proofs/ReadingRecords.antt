@@ -13,9 +13,10 @@ use Rattle.records.specs.declared.fault.RecordFault.{RecordFault}
 use Rattle.records.specs.declared.fault.RecordFault.TheVariants as record_faults
 use Rattle.records.specs.declared.record.Record.{Record}
 use Rattle.records.specs.declared.record.Record.TheVariants.{Head as Begins, Opened, Begin, Install, End, Served}
-use Rattle.records.specs.Spelling.{IsRecord, IsChange, Spells, GivesOrMemory, record_spelling}
+use Rattle.records.specs.Spelling.{IsRecord, IsChange, SpellsBut, Spells, GivesOrMemory, record_spelling}
 use Rattle.records.specs.Reading.{record_at}
-use Rattle.records.proofs.Decoding.{Decodes, same_ok}
+use Rattle.records.proofs.Decoding.{same_ok}
+use Rattle.records.proofs.ToCome.{Reads}
 use Rattle.records.proofs.Records.{record_reads}
 use Rattle.node_core.specs.Nodes.{NodeV, StoreV}
 use Rattle.node_core.specs.Ranges.{RecordFits}
@@ -26,8 +27,8 @@ use Rattle.node_store.specs.Stands.{all_follow}
 use Rattle.node_store.proofs.Standing.{replayed_more, follow_more}
 use Rattle.node_store.specs.Reading.{TakesRecord, IsFrontOf, IsHeadOf, IsHeadFound, IsRead, LeadsOn, IsWrongWithin}
 
-abbrev reads : Decodes Spells record_at
-reads = record_reads.decodes
+abbrev reads : Reads SpellsBut record_at
+reads = record_reads
 
 -- bytes begin with one record
 pub one_front : (a b : Record) (x y : List ℕ) → IsRecord a → IsRecord b → record_spelling a ++ x ≡ record_spelling b ++ y → (a ≡ b) × (x ≡ y)
@@ -116,7 +117,7 @@ call_fits (Setattr dir name mode size stamp) change = change.0.1
 call_fits (Lookup dir name) change = absurd change
 call_fits (Scan dir) change = absurd change
 call_fits (Grab dir name count) change = change.0.1
-call_fits (Load dir rows) change = absurd change
+call_fits (Load dir rows) change = change.0.1
 call_fits (Link dir name id) change = change.0.1
 call_fits (Seal dir part epoch) change = change.0.1
 call_fits (Unseal dir part epoch) change = change.0.1

@@ -1,5 +1,5 @@
 -- What the bytes begin with: a spelling, a part of one, or neither; and what reading them gives then.
-use Rattle.std.proofs.Common.{◌≡◌, ◌∙◌, sym, ap, subst, refl, ℕ, ◌+◌, ◌-◌, ◌<◌, ◌≤◌, List, [], ◌∷◌, ◌++◌, append_assoc, length, take, drop, arith, Result, Ok, Err, inl, inr}
+use Rattle.std.proofs.Common.{◌≡◌, ◌∙◌, sym, ap, subst, ℕ, ◌+◌, ◌-◌, ◌<◌, ◌≤◌, List, [], ◌∷◌, ◌++◌, append_assoc, length, take, drop, arith, Result, Ok, Err, inl, inr}
 use Rattle.std.proofs.lemmas.Bool.{cases_lt}
 use Rattle.std.proofs.lemmas.List.{append-nil, length-append, take_at, take-append-drop, take_all, take-take}
 use Rattle.records.specs.declared.fault.Fault.{Fault}
@@ -8,13 +8,17 @@ use Rattle.records.specs.declared.fault.Stop.{Stop}
 use Rattle.records.specs.declared.fault.Stop.TheVariants as stops
 use Rattle.records.specs.declared.record.Record.{Record}
 use Rattle.records.specs.Faults.{Fails}
-use Rattle.records.specs.Spelling.{Spells, IsBegun, IsBadAt}
+use Rattle.records.specs.Spelling.{SpellsBut, Spells, IsBegun, IsBadAt}
 use Rattle.records.specs.Reading.{record_at}
-use Rattle.records.proofs.Decoding.{IsBytes, Decodes, same_ok}
-use Rattle.records.proofs.Records.{record_reads}
+use Rattle.records.proofs.Decoding.{IsBytes, same_ok, not_both}
+use Rattle.records.proofs.ToCome.{Reads, Waits, bytes_before}
+use Rattle.records.proofs.Records.{record_reads, record_waits}
 
-abbrev reads : Decodes Spells record_at
-reads = record_reads.decodes
+abbrev reads : Reads SpellsBut record_at
+reads = record_reads
+
+abbrev waits : Waits SpellsBut
+waits = record_waits
 
 -- bytes spell one record, and no spelling is a proper prefix of another
 pub no_prefix : (bytes more : List ℕ) (a b : Record) → Spells bytes a → Spells (bytes ++ more) b → (more ≡ []) × (a ≡ b)
@@ -23,10 +27,6 @@ no_prefix bytes more a b first second =
     let long : record_at (bytes ++ more) ≡ Ok (b, []) = ap record_at (sym (append-nil (bytes ++ more))) ∙ reads.again (bytes ++ more) b [] second in
     let same = same_ok (record_at (bytes ++ more)) (a, more) (b, []) short long in
     (ap (λ (p : Record × List ℕ). p.1) same, ap (λ (p : Record × List ℕ). p.0) same)
-
--- nothing that goes on after a spelling is one
-ends_there : (bytes more : List ℕ) (a b : Record) → Spells bytes a → Spells (bytes ++ more) b → 0 < length more → ⊥
-ends_there bytes more a b first second some = let none = ap length (no_prefix bytes more a b first second).0 in absurd (omega arith)
 
 -- the record that was read, and the length of its spelling
 pub record Front (bytes : List ℕ) (item : Record) (rest : List ℕ) : Type 0 where
@@ -48,18 +48,7 @@ pub begun_found : (bytes : List ℕ) → IsBytes bytes → record_at bytes ≡ E
 begun_found bytes fits e = let b = reads.short bytes fits e in (b.more, b.value, b.some, b.spelled)
 
 pub begun_read : (bytes : List ℕ) → IsBytes bytes → IsBegun bytes → record_at bytes ≡ Err Short
-begun_read bytes fits begun = go (record_at bytes) refl
-  where
-    go : (r : Result (Record × List ℕ) Fault) → record_at bytes ≡ r → r ≡ Err Short
-    go (Ok p) is =
-        let t = reads.found bytes p.0 p.1 fits is in
-        let whole : bytes ++ begun.0 ≡ t.text ++ (p.1 ++ begun.0) = ap (λ (u : List ℕ). u ++ begun.0) t.parts ∙ append_assoc t.text p.1 begun.0 in
-        absurd (ends_there t.text (p.1 ++ begun.0) p.0 begun.1 t.spelled (subst (λ (u : List ℕ). Spells u begun.1) whole begun.3) (let some = begun.2 in omega (arith, length-append p.1 begun.0)))
-    go (Err Short) is = refl
-    go (Err (Bad left)) is =
-        let r = reads.bad bytes left fits is in
-        let whole : bytes ++ begun.0 ≡ r.front ++ r.byte ∷ (r.rest ++ begun.0) = ap (λ (u : List ℕ). u ++ begun.0) r.parts ∙ append_assoc r.front (r.byte ∷ r.rest) begun.0 in
-        absurd (r.never (r.rest ++ begun.0) begun.1 (subst (λ (u : List ℕ). Spells u begun.1) whole begun.3))
+begun_read bytes fits begun = reads.cut bytes begun.0 begun.1 fits begun.2 begun.3
 
 -- the byte that was refused, and its place
 pub record Refused (bytes : List ℕ) (left : ℕ) : Type 0 where
@@ -80,8 +69,8 @@ bad_found bytes left fits e =
       within = omega arith;
       bad = record {
         within = omega arith;
-        before = subst IsBegun (sym front) (r.begun.more, r.begun.value, r.begun.some, r.begun.spelled);
-        after = λ more item s. r.never more item (subst (λ (u : List ℕ). Spells u item) (ap (λ (u : List ℕ). u ++ more) byte ∙ append_assoc r.front (r.byte ∷ []) more) s);
+        before = subst IsBegun (sym front) (r.started.more, r.started.value, r.started.some, r.started.spelled);
+        after = λ more item s. r.never more item (subst (λ (u : List ℕ). SpellsBut (length more) u item) (ap (λ (u : List ℕ). u ++ more) byte ∙ append_assoc r.front (r.byte ∷ []) more) s);
       };
     }
 
@@ -92,10 +81,12 @@ front_of_front bytes m n le =
     (drop m (take n bytes), sym (take-append-drop m (take n bytes)) ∙ ap (λ (u : List ℕ). u ++ drop m (take n bytes)) same)
 
 -- a bad place is before no other place up to which a spelling begins
-bad_first : (bytes : List ℕ) (place further : ℕ) → IsBadAt bytes place → place < further → (more : List ℕ) (item : Record) → Spells (take further bytes ++ more) item → ⊥
+bad_first : (bytes : List ℕ) (place further : ℕ) → IsBadAt bytes place → place < further → (more : List ℕ) (item : Record) → SpellsBut (length more) (take further bytes ++ more) item → ⊥
 bad_first bytes place further bad lt more item s =
     let f = front_of_front bytes (place + 1) further (omega arith) in
-    bad.after (f.0 ++ more) item (subst (λ (u : List ℕ). Spells u item) (ap (λ (u : List ℕ). u ++ more) f.1 ∙ append_assoc (take (place + 1) bytes) f.0 more) s)
+    let longer = length-append f.0 more in
+    let loose = waits.looser (length more) (length (f.0 ++ more)) (take further bytes ++ more) item (omega arith) s in
+    bad.after (f.0 ++ more) item (subst (λ (u : List ℕ). SpellsBut (length (f.0 ++ more)) u item) (ap (λ (u : List ℕ). u ++ more) f.1 ∙ append_assoc (take (place + 1) bytes) f.0 more) loose)
 
 pub one_bad : (bytes : List ℕ) (a b : ℕ) → IsBadAt bytes a → IsBadAt bytes b → a ≡ b
 one_bad bytes a b first second = elim (cases_lt a b) [
@@ -116,15 +107,17 @@ bad_no_record bytes place item rest fits bad e =
       | inr le ↦
           let g = front_of_front bytes len place le in
           let b = bad.before in
-          let whole : take place bytes ++ b.0 ≡ take len bytes ++ (g.0 ++ b.0) = ap (λ (u : List ℕ). u ++ b.0) g.1 ∙ append_assoc (take len bytes) g.0 b.0 in
-          ends_there (take len bytes) (g.0 ++ b.0) item b.1 f.spelled (subst (λ (u : List ℕ). Spells u b.1) whole b.3) (let some = b.2 in omega (arith, length-append g.0 b.0))
+          let fits_front = bytes_before (take place bytes) (drop place bytes) (subst IsBytes (sym (take-append-drop place bytes)) fits) in
+          let short = reads.cut (take place bytes) b.0 b.1 fits_front b.2 b.3 in
+          let whole : record_at (take place bytes) ≡ Ok (item, g.0) = ap record_at g.1 ∙ reads.again (take len bytes) item g.0 f.spelled in
+          not_both (record_at (take place bytes)) (item, g.0) Short whole short
     ]
 
 pub bad_not_short : (bytes : List ℕ) (place : ℕ) → IsBytes bytes → IsBadAt bytes place → record_at bytes ≡ Err Short → ⊥
 bad_not_short bytes place fits bad e =
     let b = reads.short bytes fits e in
     let all : take (length bytes) bytes ≡ bytes = take_all (length bytes) bytes (omega arith) in
-    bad_first bytes place (length bytes) bad bad.within b.more b.value (subst (λ (u : List ℕ). Spells (u ++ b.more) b.value) (sym all) b.spelled)
+    bad_first bytes place (length bytes) bad bad.within b.more b.value (subst (λ (u : List ℕ). SpellsBut (length b.more) (u ++ b.more) b.value) (sym all) b.spelled)
 
 -- what a reader that stopped at a fault was to read
 pub stopped_at : {Y : Type 0} (stop : Stop) (inner fault : Fault) (r : Result Y Fault) → Fails stop r → stop ≡ stops.Fault inner → inner ≡ fault → r ≡ Err fault

@@ -1,6 +1,11 @@
 pub mod Numbers
 pub mod Decoding
+pub mod ToCome
 pub mod Fields
 pub mod Shapes
+pub mod Rows
+pub mod Loads
+pub mod Calls
+pub mod Finals
 pub mod Records
 pub mod Fronts

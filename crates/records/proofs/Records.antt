@@ -1,503 +1,25 @@
--- The readers of calls, finals and records read them exactly.
-use Rattle.std.proofs.Common.{◌≡◌, ◌∙◌, sym, ap, subst, refl, ℕ, zero, suc, ◌+◌, ◌-◌, ◌*◌, ◌/◌, ◌%◌, ◌^◌, ◌<◌, ◌≤◌, ◌==◌, Bool, true, false, cond, List, [], ◌∷◌, ◌++◌, lit≤, lit<, arith, Option, Some, None, MatchOption, if◌then◌else◌, nat_lt, inl, inr, ◌⊎◌}
-use Rattle.std.specs.Cmp.{eq_by_cmp_equiv}
-use Rattle.std.specs.FinMap as map
-use Rattle.std.specs.Int.{w32, w64, to_be_bytes, bytes_high_first, byte_at}
-use Rattle.std.proofs.Math.Nat.{div-div-eq-div-mul, div-one, mul_comm, pow-suc, pow-le-pow_right}
+-- The readers of heads, changes, splits and records read them exactly.
+use Rattle.std.proofs.Common.{◌≡◌, ◌∙◌, sym, ap, subst, refl, ℕ, ◌-◌, ◌^◌, ◌<◌, ◌≤◌, ◌==◌, true, cond, List, [], ◌∷◌, ◌++◌, length, lit≤, lit<, arith, if◌then◌else◌, nat_lt, Ok}
+use Rattle.std.specs.Int.{w32, w64, to_be_bytes}
+use Rattle.std.proofs.Math.Nat.{pow-le-pow_right}
 use Rattle.std.proofs.lemmas.Bool.Decides.{nat_tests}
-use Rattle.std.proofs.lemmas.Bool.{eq-eqb, and_parts, and_from}
+use Rattle.std.proofs.lemmas.Bool.{and_parts, and_from}
 use Rattle.std.proofs.lemmas.List.{append-nil}
-use Rattle.mds_base.specs.declared.attr.Attr.{Attr}
-use Rattle.mds_base.specs.declared.attr.Stamp.{Stamp}
 use Rattle.mds_base.specs.declared.call.Call.{Call}
-use Rattle.mds_base.specs.declared.call.Call.TheVariants.{Create, Mkdir, Remove, Lookup, Setattr, Scan, Grab, Load, Link, Seal, Unseal, Kill, Unlink}
 use Rattle.mds_base.specs.declared.reply.Final.{Final}
-use Rattle.mds_base.specs.declared.reply.Final.TheVariants.{Created, CreatedDir, Exists, Removed, Missing, IsDir, Set, Ids, Loaded, Stale, Sealed, NotEmpty, Late, Opened, Killed}
-use Rattle.mds_base.specs.declared.reply.Reply.TheVariants.{Said}
-use Rattle.mds_base.specs.Entries.{Place, place_cmp, Entries, new_file, new_directory, is_file}
-use Rattle.mds_base.specs.PlainRules.{SealAllows}
-use Rattle.mds_base.proofs.Places.{places_total}
 use Rattle.records.specs.declared.kinds.TheConstants as kinds
 use Rattle.records.specs.declared.record.Record.{Record}
 use Rattle.records.specs.declared.record.Record.TheVariants as records
 use Rattle.records.specs.declared.record.Record.TheVariants.{Head, Served, Begin, Install, End}
-use Rattle.records.specs.Spelling.{IsDirectory, IsChange, MaySay, IsNumbered, IsHead, IsServed, IsSplit, call_spelling, tag_of, number_of, final_spelling, split_spelling, Spells}
-use Rattle.records.specs.Reading.{byte_among, set_after, named_after, call_after, call_kinds, call_at, tags_of, least_of, most_of, final_of, is_low, sealed_at, final_at, head_at, served_at, is_depth, split_at, record_kinds, record_after, record_at}
-use Rattle.records.proofs.Decoding.{Follows, Seq, Ends, follows_here, by_test, both_follow, same_follows}
+use Rattle.records.specs.Spelling.{IsChangeBut, IsHead, IsServed, IsSplit, call_spelling, final_spelling, split_spelling, SpellsBut}
+use Rattle.records.specs.Faults.{◌>>=◌}
+use Rattle.records.specs.Reading.{call_at, final_at, head_at, served_at, is_depth, split_at, record_kinds, record_after, record_at}
+use Rattle.records.proofs.Decoding.{Follows, Seq, Ends, follows_here, both_follow, same_follows}
+use Rattle.records.proofs.ToCome.{Waits, Opens, Reads, Then, Goes, goes_plainly, go_in_turn, same_goes, goes_by_test}
 use Rattle.records.proofs.Fields.{OneByte, is_among, among_reads, NumberOf, number_reads}
-use Rattle.records.proofs.Shapes.{Shape, Done, Byte, Number, Name, If, Args, Ranged, value_of, joined, Of, Sound, shape_reads, AllOf, each_of}
-
--- ---- calls
-
--- a call that a log keeps, and its spelling
-pub record CallText (text : List ℕ) (call : Call) : Type 0 where
-  pub change : IsChange call
-  pub text_is : text ≡ call_spelling call
-
--- the stamp of an owner and a time
-abbrev stamp_of : ℕ → ℕ → Stamp
-stamp_of owner mtime = record { owner = owner; mtime = mtime }
-
--- a directory number, and an epoch
-abbrev directory : {X : Type 0} → (ℕ → Shape X) → Shape X
-directory f = Number 8 1 (2 ^ 48 - 1) f
-
-abbrev epoch : {X : Type 0} → (ℕ → Shape X) → Shape X
-epoch f = Number 8 0 (2 ^ 48 - 1) f
-
-abbrev set_shape : ℕ → ℕ → List ℕ → ℕ → ℕ → Shape Call
-set_shape kind dir name mode size = If (kind == kinds.CALL_SETATTR) (Done (Setattr dir name mode size None)) (Number 4 0 (2 ^ 32 - 1) (λ owner. Number 8 0 (2 ^ 64 - 1) (λ mtime. Done (Setattr dir name mode size (Some (stamp_of owner mtime))))))
-
-abbrev named_shape : ℕ → ℕ → List ℕ → Shape Call
-named_shape kind dir name =
-    If (kind == kinds.CALL_CREATE) (Done (Create dir name)) (If (kind == kinds.CALL_MKDIR) (Done (Mkdir dir name)) (If (kind == kinds.CALL_REMOVE) (Done (Remove dir name))
-    (If (kind == kinds.CALL_GRAB) (Number 4 1 4096 (λ count. Done (Grab dir name count))) (If (kind == kinds.CALL_LINK) (directory (λ id. Done (Link dir name id))) (If (kind == kinds.CALL_UNLINK) (directory (λ id. Done (Unlink dir name id)))
-    (Number 2 0 4095 (λ mode. Number 8 0 (2 ^ 64 - 1) (λ size. set_shape kind dir name mode size))))))))
-
-abbrev after_shape : ℕ → ℕ → Shape Call
-after_shape kind dir =
-    If (kind == kinds.CALL_SEAL) (Number 4 0 1023 (λ part. epoch (λ e. Done (Seal dir part e)))) (If (kind == kinds.CALL_UNSEAL) (Number 4 0 1023 (λ part. epoch (λ e. Done (Unseal dir part e))))
-    (If (kind == kinds.CALL_KILL) (epoch (λ e. Done (Kill dir e))) (Name (named_shape kind dir))))
-
-abbrev call_shape : Shape Call
-call_shape = Byte (is_among call_kinds) (λ kind. directory (after_shape kind))
-
-set_sound : (kind dir : ℕ) (name : List ℕ) (mode size : ℕ) → Sound (set_shape kind dir name mode size)
-set_sound kind dir name mode size = (λ _. tt, λ _. (omega arith, lit< tt, λ owner _ _. (omega arith, lit< tt, λ mtime _ _. tt)))
-
-named_sound : (kind dir : ℕ) (name : List ℕ) → Sound (named_shape kind dir name)
-named_sound kind dir name = (
-  λ _. tt,
-  λ _. (
-    λ _. tt,
-    λ _. (
-      λ _. tt,
-      λ _. (
-        λ _. (lit≤ tt, lit< tt, λ count _ _. tt),
-        λ _. (
-          λ _. (lit≤ tt, lit< tt, λ id _ _. tt),
-          λ _. (
-            λ _. (lit≤ tt, lit< tt, λ id _ _. tt),
-            λ _.
-                (omega arith, lit< tt, λ mode _ _. (omega arith, lit< tt, λ size _ _. set_sound kind dir name mode size)),
-          ),
-        ),
-      ),
-    ),
-  ),
-)
-
-after_sound : (kind dir : ℕ) → Sound (after_shape kind dir)
-after_sound kind dir = (λ _. (omega arith, lit< tt, λ part _ _. (omega arith, lit< tt, λ e _ _. tt)), λ _. (λ _. (omega arith, lit< tt, λ part _ _. (omega arith, lit< tt, λ e _ _. tt)), λ _. (λ _. (omega arith, lit< tt, λ e _ _. tt), λ _. λ name _. named_sound kind dir name)))
-
-call_sound : Sound call_shape
-call_sound = ((kinds.CALL_CREATE, lit< tt, refl), λ kind _. (lit≤ tt, lit< tt, λ dir _ _. after_sound kind dir))
-
-lt_on : (a b : ℕ) → a < b → nat_lt a b ≡ true
-lt_on a b lt = grind (arith, nat_tests)
-
-lt_of : (a b : ℕ) → nat_lt a b ≡ true → a < b
-lt_of a b on = grind (arith, nat_tests)
-
-in_directory : (number : ℕ) → (1 ≤ number) × (number ≤ 2 ^ 48 - 1) → IsDirectory number
-in_directory number range = let high = range.1 in (range.0, omega arith)
-
-of_directory : (number : ℕ) → IsDirectory number → (1 ≤ number) × (number ≤ 2 ^ 48 - 1)
-of_directory number is = let high = is.1 in (is.0, omega arith)
-
-below : (n most : ℕ) → (0 ≤ n) × (n ≤ most) → n ≤ most
-below n most range = range.1
-
--- what is read after a kind and a directory is a call of this kind, and its spelling
-abbrev OfKind : ℕ → Type 0
-OfKind kind = (dir : ℕ) → IsDirectory dir → (a : Args (after_shape kind dir)) → Ranged (after_shape kind dir) a → CallText (kind ∷ joined (to_be_bytes w64 dir) (after_shape kind dir) a) (value_of (after_shape kind dir) a)
-
-create_made : OfKind kinds.CALL_CREATE
-create_made dir is a r = record { change = (is, r.0); text_is = refl }
-
-mkdir_made : OfKind kinds.CALL_MKDIR
-mkdir_made dir is a r = record { change = (is, r.0); text_is = refl }
-
-remove_made : OfKind kinds.CALL_REMOVE
-remove_made dir is a r = record { change = (is, r.0); text_is = refl }
-
-setattr_made : OfKind kinds.CALL_SETATTR
-setattr_made dir is a r = let size = r.1.1.0.1 in record { change = (is, r.0, r.1.0.1, omega arith, tt); text_is = refl }
-
-stamp_made : OfKind kinds.CALL_STAMP
-stamp_made dir is a r = let size = r.1.1.0.1 in let owner = r.1.1.1.0.1 in let mtime = r.1.1.1.1.0.1 in record { change = (is, r.0, r.1.0.1, omega arith, (omega arith, omega arith)); text_is = refl }
-
-grab_made : OfKind kinds.CALL_GRAB
-grab_made dir is a r = record { change = (is, r.0, r.1.0.0, r.1.0.1); text_is = refl }
-
-link_made : OfKind kinds.CALL_LINK
-link_made dir is a r = record { change = (is, r.0, in_directory a.1.0 r.1.0); text_is = refl }
-
-unlink_made : OfKind kinds.CALL_UNLINK
-unlink_made dir is a r = record { change = (is, r.0, in_directory a.1.0 r.1.0); text_is = refl }
-
-seal_made : OfKind kinds.CALL_SEAL
-seal_made dir is a r = let part = r.0.1 in let e = r.1.0.1 in record { change = (is, omega arith, omega arith); text_is = refl }
-
-unseal_made : OfKind kinds.CALL_UNSEAL
-unseal_made dir is a r = let part = r.0.1 in let e = r.1.0.1 in record { change = (is, omega arith, omega arith); text_is = refl }
-
-kill_made : OfKind kinds.CALL_KILL
-kill_made dir is a r = let e = r.0.1 in record { change = (is, omega arith); text_is = refl }
-
-calls_made : AllOf OfKind call_kinds
-calls_made = (create_made, (mkdir_made, (remove_made, (setattr_made, (grab_made, (link_made, (stamp_made, (seal_made, (unseal_made, (kill_made, (unlink_made, tt)))))))))))
-
-call_there : (text : List ℕ) (call : Call) → Of call_shape text call → CallText text call
-call_there text call o =
-    let made = each_of OfKind call_kinds calls_made o.args.0 o.ranged.0.1 o.args.1.0 (in_directory o.args.1.0 o.ranged.1.0) o.args.1.1 o.ranged.1.1 in
-    subst (CallText text) (sym o.value_is) (record { change = made.change; text_is = o.text_is ∙ made.text_is })
-
-call_back : (text : List ℕ) (call : Call) → CallText text call → Of call_shape text call
-call_back text (Create dir name) s = record { args = (kinds.CALL_CREATE, (dir, (name, tt))); ranged = ((lit< tt, refl), (of_directory dir s.change.0, (s.change.1, tt))); text_is = s.text_is; value_is = refl }
-call_back text (Mkdir dir name) s = record { args = (kinds.CALL_MKDIR, (dir, (name, tt))); ranged = ((lit< tt, refl), (of_directory dir s.change.0, (s.change.1, tt))); text_is = s.text_is; value_is = refl }
-call_back text (Remove dir name) s = record { args = (kinds.CALL_REMOVE, (dir, (name, tt))); ranged = ((lit< tt, refl), (of_directory dir s.change.0, (s.change.1, tt))); text_is = s.text_is; value_is = refl }
-call_back text (Setattr dir name mode size None) s =
-    let fits = s.change.3 in
-    record { args = (kinds.CALL_SETATTR, (dir, (name, (mode, (size, tt))))); ranged = ((lit< tt, refl), (of_directory dir s.change.0, (s.change.1, ((omega arith, s.change.2), ((omega arith, omega arith), tt))))); text_is = s.text_is; value_is = refl }
-call_back text (Setattr dir name mode size (Some stamp)) s =
-    let fits = s.change.3 in
-    let owner = s.change.4.0 in
-    let mtime = s.change.4.1 in
-    record {
-      args = (kinds.CALL_STAMP, (dir, (name, (mode, (size, (stamp.owner, (stamp.mtime, tt)))))));
-      ranged = ((lit< tt, refl), (of_directory dir s.change.0, (s.change.1, ((omega arith, s.change.2), ((omega arith, omega arith), ((omega arith, omega arith), ((omega arith, omega arith), tt)))))));
-      text_is = s.text_is;
-      value_is = refl;
-    }
-call_back text (Grab dir name count) s = record { args = (kinds.CALL_GRAB, (dir, (name, (count, tt)))); ranged = ((lit< tt, refl), (of_directory dir s.change.0, (s.change.1, ((s.change.2, s.change.3), tt)))); text_is = s.text_is; value_is = refl }
-call_back text (Link dir name id) s = record { args = (kinds.CALL_LINK, (dir, (name, (id, tt)))); ranged = ((lit< tt, refl), (of_directory dir s.change.0, (s.change.1, (of_directory id s.change.2, tt)))); text_is = s.text_is; value_is = refl }
-call_back text (Unlink dir name id) s = record { args = (kinds.CALL_UNLINK, (dir, (name, (id, tt)))); ranged = ((lit< tt, refl), (of_directory dir s.change.0, (s.change.1, (of_directory id s.change.2, tt)))); text_is = s.text_is; value_is = refl }
-call_back text (Seal dir part e) s = let low = s.change.1 in let high = s.change.2 in record { args = (kinds.CALL_SEAL, (dir, (part, (e, tt)))); ranged = ((lit< tt, refl), (of_directory dir s.change.0, ((omega arith, omega arith), ((omega arith, omega arith), tt)))); text_is = s.text_is; value_is = refl }
-call_back text (Unseal dir part e) s = let low = s.change.1 in let high = s.change.2 in record { args = (kinds.CALL_UNSEAL, (dir, (part, (e, tt)))); ranged = ((lit< tt, refl), (of_directory dir s.change.0, ((omega arith, omega arith), ((omega arith, omega arith), tt)))); text_is = s.text_is; value_is = refl }
-call_back text (Kill dir e) s = let high = s.change.1 in record { args = (kinds.CALL_KILL, (dir, (e, tt))); ranged = ((lit< tt, refl), (of_directory dir s.change.0, ((omega arith, omega arith), tt))); text_is = s.text_is; value_is = refl }
-call_back text (Lookup dir name) s = absurd s.change
-call_back text (Scan dir) s = absurd s.change
-call_back text (Load dir rows) s = absurd s.change
-
-call_parts : Follows (Of call_shape) call_at
-unfolding call_at call_after named_after set_after byte_among
-call_parts = shape_reads call_shape call_sound
-
-pub call_reads : Follows CallText call_at
-call_reads = same_follows call_there call_back call_parts
-
--- ---- finals
-
--- a final that may be said to the call, and its spelling
-pub record FinalText (call : Call) (text : List ℕ) (said : Final) : Type 0 where
-  pub reply : MaySay call said
-  pub numbered : IsNumbered said
-  pub text_is : text ≡ final_spelling said
-
-abbrev sealed_shape : Shape Final
-sealed_shape = Number 7 0 (2 ^ 44 - 1) (λ high. Byte is_low (λ low. Done (Sealed (low % 16) (high * 16 + low / 16))))
-
--- what follows the tag
-abbrev tag_shape : Call → ℕ → Shape Final
-tag_shape call tag = If (tag == kinds.FINAL_SEALED) sealed_shape (Number 8 (least_of call tag) (most_of call tag) (λ number. Done (final_of tag number)))
-
-abbrev final_shape : Call → Shape Final
-final_shape call = Byte (is_among (tags_of call)) (tag_shape call)
-
--- a range of numbers of eight bytes
-abbrev IsRange : ℕ → ℕ → Type 0
-IsRange least most = (least ≤ most) × (most < 256 ^ 8)
-
-range_of : (a b : Bool) → IsRange (cond a 1 (cond b 2 0)) (cond a (2 ^ 48 - 1) (cond b (2 ^ 45) 0))
-range_of true b = (lit≤ tt, lit< tt)
-range_of false true = (lit≤ tt, lit< tt)
-range_of false false = (lit≤ tt, lit< tt)
-
-link_range : (id : ℕ) (a : Bool) → IsDirectory id → IsRange (cond a id 0) (cond a id 0)
-link_range id true is = let high = is.1 in (omega arith, omega arith)
-link_range id false is = (lit≤ tt, lit< tt)
-
-in_range : (call : Call) → IsChange call → (tag : ℕ) → IsRange (least_of call tag) (most_of call tag)
-in_range (Create dir name) change tag = range_of (tag == kinds.FINAL_CREATED_DIR) (tag == kinds.FINAL_IDS)
-in_range (Mkdir dir name) change tag = range_of (tag == kinds.FINAL_CREATED_DIR) (tag == kinds.FINAL_IDS)
-in_range (Remove dir name) change tag = range_of (tag == kinds.FINAL_CREATED_DIR) (tag == kinds.FINAL_IDS)
-in_range (Setattr dir name mode size stamp) change tag = range_of (tag == kinds.FINAL_CREATED_DIR) (tag == kinds.FINAL_IDS)
-in_range (Grab dir name count) change tag = range_of (tag == kinds.FINAL_CREATED_DIR) (tag == kinds.FINAL_IDS)
-in_range (Link dir name id) change tag = link_range id (tag == kinds.FINAL_CREATED_DIR) change.2
-in_range (Seal dir part epoch) change tag = range_of (tag == kinds.FINAL_CREATED_DIR) (tag == kinds.FINAL_IDS)
-in_range (Unseal dir part epoch) change tag = range_of (tag == kinds.FINAL_CREATED_DIR) (tag == kinds.FINAL_IDS)
-in_range (Kill dir epoch) change tag = range_of (tag == kinds.FINAL_CREATED_DIR) (tag == kinds.FINAL_IDS)
-in_range (Unlink dir name id) change tag = range_of (tag == kinds.FINAL_CREATED_DIR) (tag == kinds.FINAL_IDS)
-in_range (Lookup dir name) change tag = absurd change
-in_range (Scan dir) change tag = absurd change
-in_range (Load dir rows) change tag = absurd change
-
--- a tag that the call may get
-abbrev SomeTag : Call → Type 0
-SomeTag call = (tag : ℕ) × (tag < 256) × (is_among (tags_of call) tag ≡ true)
-
-some_tag : (call : Call) → IsChange call → SomeTag call
-some_tag (Create dir name) change = (kinds.FINAL_CREATED, lit< tt, refl)
-some_tag (Mkdir dir name) change = (kinds.FINAL_EXISTS, lit< tt, refl)
-some_tag (Remove dir name) change = (kinds.FINAL_REMOVED, lit< tt, refl)
-some_tag (Setattr dir name mode size stamp) change = (kinds.FINAL_SET, lit< tt, refl)
-some_tag (Grab dir name count) change = (kinds.FINAL_IDS, lit< tt, refl)
-some_tag (Link dir name id) change = (kinds.FINAL_EXISTS, lit< tt, refl)
-some_tag (Seal dir part epoch) change = (kinds.FINAL_LATE, lit< tt, refl)
-some_tag (Unseal dir part epoch) change = (kinds.FINAL_LATE, lit< tt, refl)
-some_tag (Kill dir epoch) change = (kinds.FINAL_LATE, lit< tt, refl)
-some_tag (Unlink dir name id) change = (kinds.FINAL_EXISTS, lit< tt, refl)
-some_tag (Lookup dir name) change = absurd change
-some_tag (Scan dir) change = absurd change
-some_tag (Load dir rows) change = absurd change
-
-sealed_sound : Sound sealed_shape
-sealed_sound = (omega arith, lit< tt, λ high _ _. ((0, lit< tt, refl), λ low _. tt))
-
-final_sound : (call : Call) → IsChange call → Sound (final_shape call)
-final_sound call change = (some_tag call change, λ tag _. (λ _. sealed_sound, λ _. let range = in_range call change tag in (range.0, range.1, λ number _ _. tt)))
-
--- what stands at a place of a map: nothing, a file, or a directory
-abbrev nothing : Entries
-nothing = map.empty
-
-abbrev only : Place → Attr → Entries
-only place attr = map.insert nothing place attr
-
-only_there : (place : Place) (attr : Attr) → map.get (only place attr) place ≡ Some attr
-only_there place attr = map.get-insert places_total nothing place attr place ∙ ap (λ b. cond b (Some attr) (map.get nothing place)) ((eq_by_cmp_equiv places_total).refl place)
-
--- a reply that is due where the entry is absent, and one where it is there
-says_absent : (place : Place) (Q : Type 0) (P : Attr → Type 0) → Q → MatchOption (map.get nothing place) Q P
-says_absent place Q P holds = subst (λ (o : Option Attr). MatchOption o Q P) (sym (map.get-empty place_cmp place)) holds
-
-says_there : (place : Place) (attr : Attr) (Q : Type 0) (P : Attr → Type 0) → P attr → MatchOption (map.get (only place attr) place) Q P
-says_there place attr Q P holds = subst (λ (o : Option Attr). MatchOption o Q P) (sym (only_there place attr)) holds
-
--- a name
-abbrev letter : List ℕ
-letter = 97 ∷ []
-
-byte_is : (k n : ℕ) → byte_at k n ≡ n / 256 ^ k % 256
-byte_is zero n = ap (λ (m : ℕ). m % 256) (sym (div-one n))
-byte_is (suc k) n = refl
-
-byte_up : (k high low : ℕ) → low < 256 → byte_at (suc k) (high * 256 + low) ≡ byte_at k high
-byte_up k high low small =
-    let under : (high * 256 + low) / 256 ≡ high = omega arith in
-    let split : (high * 256 + low) / 256 ^ suc k ≡ high / 256 ^ k =
-    ap (λ (m : ℕ). (high * 256 + low) / m) (pow-suc 256 k ∙ mul_comm (256 ^ k) 256) ∙ sym (div-div-eq-div-mul (high * 256 + low) 256 (256 ^ k)) ∙ ap (λ (m : ℕ). m / 256 ^ k) under in
-    ap (λ (m : ℕ). m % 256) split ∙ sym (byte_is k high)
-
--- the number of an epoch and a depth, and its bytes
-low_bytes : (k high low : ℕ) → low < 256 → bytes_high_first (suc k) (high * 256 + low) ≡ bytes_high_first k high ++ low ∷ []
-low_bytes zero high low small = let byte : (high * 256 + low) % 256 ≡ low = omega arith in ap (λ (b : ℕ). b ∷ []) byte
-low_bytes (suc k) high low small =
-    let rest = low_bytes k high low small in
-    let first : byte_at (suc k) (high * 256 + low) ≡ byte_at k high = byte_up k high low small in
-    ap (λ (b : ℕ). b ∷ bytes_high_first (suc k) (high * 256 + low)) first ∙ ap (λ (t : List ℕ). byte_at k high ∷ t) rest
-
-seal_bytes : (epoch depth : ℕ) → depth ≤ 14 → to_be_bytes w64 (16 * epoch + depth) ≡ bytes_high_first 7 (epoch / 16) ++ (epoch % 16 * 16 + depth) ∷ []
-seal_bytes epoch depth small =
-    let whole : 16 * epoch + depth ≡ epoch / 16 * 256 + (epoch % 16 * 16 + depth) = omega arith in
-    ap (to_be_bytes w64) whole ∙ low_bytes 7 (epoch / 16) (epoch % 16 * 16 + depth) (omega arith)
-
--- what follows this tag is a final of the call, and its spelling
-abbrev OfTag : Call → ℕ → Type 0
-OfTag call tag = (a : Args (tag_shape call tag)) → Ranged (tag_shape call tag) a → FinalText call (joined (tag ∷ []) (tag_shape call tag) a) (value_of (tag_shape call tag) a)
-
--- a final without a number
-plain : (call : Call) (said : Final) (number : ℕ) → number_of said ≡ 0 → IsNumbered said → MaySay call said → number ≤ 0 → FinalText call (tag_of said ∷ to_be_bytes w64 number) said
-plain call said number none numbered may no_number = record { reply = may; numbered = numbered; text_is = ap (λ (n : ℕ). tag_of said ∷ to_be_bytes w64 n) (let same : number ≡ 0 = omega arith in same ∙ sym none) }
-
-sealed_made : (dir part epoch : ℕ) → OfTag (Seal dir part epoch) kinds.FINAL_SEALED
-sealed_made dir part epoch a r =
-    let low : a.1.0 % 16 ≤ 14 = grind (arith, nat_tests, r.1.0.1) in
-    let byte = r.1.0.0 in
-    let high = r.0.1 in
-    let upper : (a.0 * 16 + a.1.0 / 16) / 16 ≡ a.0 = omega arith in
-    let lower : (a.0 * 16 + a.1.0 / 16) % 16 * 16 + a.1.0 % 16 ≡ a.1.0 = omega arith in
-    record {
-      reply = (nothing, tt);
-      numbered = (low, omega arith);
-      text_is = ap (λ (t : List ℕ). kinds.FINAL_SEALED ∷ t) (sym (seal_bytes (a.0 * 16 + a.1.0 / 16) (a.1.0 % 16) low ∙ ap (λ (n : ℕ). bytes_high_first 7 n ++ ((a.0 * 16 + a.1.0 / 16) % 16 * 16 + a.1.0 % 16) ∷ []) upper ∙ ap (λ (b : ℕ). bytes_high_first 7 a.0 ++ b ∷ []) lower));
-    }
-
-finals_made : (call : Call) → IsChange call → AllOf (OfTag call) (tags_of call)
-finals_made (Create dir name) change = (
-  λ a r. plain (Create dir name) Created a.0 refl tt (nothing, says_absent (dir, name) _ (λ _. Said Created ≡ Said Exists) refl) r.0.1,
-  (λ a r. plain (Create dir name) Exists a.0 refl tt (only (dir, name) new_file, says_there (dir, name) new_file (Said Exists ≡ Said Created) (λ _. Said Exists ≡ Said Exists) refl) r.0.1, tt),
-)
-finals_made (Mkdir dir name) change = (
-  λ a r. record { reply = (nothing, says_absent (dir, name) ((n : ℕ) × (Said (CreatedDir a.0) ≡ Said (CreatedDir n))) (λ _. Said (CreatedDir a.0) ≡ Said Exists) (a.0, refl)); numbered = in_directory a.0 r.0; text_is = refl },
-  (λ a r. plain (Mkdir dir name) Exists a.0 refl tt (only (dir, name) new_file, says_there (dir, name) new_file ((n : ℕ) × (Said Exists ≡ Said (CreatedDir n))) (λ _. Said Exists ≡ Said Exists) refl) r.0.1, tt),
-)
-finals_made (Remove dir name) change = (
-  λ a r. plain (Remove dir name) Removed a.0 refl tt (only (dir, name) new_file, says_there (dir, name) new_file (Said Removed ≡ Said Missing) (λ attr. Said Removed ≡ Said (if is_file attr then Removed else IsDir)) refl) r.0.1,
-  (
-    λ a r. plain (Remove dir name) Missing a.0 refl tt (nothing, says_absent (dir, name) _ (λ attr. Said Missing ≡ Said (if is_file attr then Removed else IsDir)) refl) r.0.1,
-    (λ a r. plain (Remove dir name) IsDir a.0 refl tt (only (dir, name) (new_directory 1), says_there (dir, name) (new_directory 1) (Said IsDir ≡ Said Missing) (λ attr. Said IsDir ≡ Said (if is_file attr then Removed else IsDir)) refl) r.0.1, tt),
-  ),
-)
-finals_made (Setattr dir name mode size stamp) change = (
-  λ a r. plain (Setattr dir name mode size stamp) Missing a.0 refl tt (nothing, says_absent (dir, name) _ (λ _. Said Missing ≡ Said Set) refl) r.0.1,
-  (λ a r. plain (Setattr dir name mode size stamp) Set a.0 refl tt (only (dir, name) new_file, says_there (dir, name) new_file (Said Set ≡ Said Missing) (λ _. Said Set ≡ Said Set) refl) r.0.1, tt),
-)
-finals_made (Grab dir name count) change = (λ a r. record { reply = (nothing, (a.0, refl)); numbered = r.0; text_is = refl }, tt)
-finals_made (Link dir name id) change = (
-  λ a r. let same : a.0 ≡ id = let low = r.0.0 in let high = r.0.1 in omega arith in
-      subst (λ (n : ℕ). FinalText (Link dir name id) (kinds.FINAL_CREATED_DIR ∷ to_be_bytes w64 n) (CreatedDir n)) (sym same) (record { reply = (nothing, says_absent (dir, name) _ (λ _. Said (CreatedDir id) ≡ Said Exists) refl); numbered = change.2; text_is = refl }),
-  (λ a r. plain (Link dir name id) Exists a.0 refl tt (only (dir, name) new_file, says_there (dir, name) new_file (Said Exists ≡ Said (CreatedDir id)) (λ _. Said Exists ≡ Said Exists) refl) r.0.1, tt),
-)
-finals_made (Seal dir part epoch) change = (
-  sealed_made dir part epoch,
-  (
-    λ a r. plain (Seal dir part epoch) NotEmpty a.0 refl tt (only (dir, letter) new_file, (letter, new_file, only_there (dir, letter) new_file)) r.0.1,
-    (
-      λ a r. plain (Seal dir part epoch) Late a.0 refl tt (nothing, tt) r.0.1,
-      (λ a r. plain (Seal dir part epoch) Killed a.0 refl tt (nothing, λ name. map.get-empty place_cmp (dir, name)) r.0.1, tt),
-    ),
-  ),
-)
-finals_made (Unseal dir part epoch) change =
-    (λ a r. plain (Unseal dir part epoch) Late a.0 refl tt (nothing, inr refl) r.0.1, (λ a r. plain (Unseal dir part epoch) Opened a.0 refl tt (nothing, inl refl) r.0.1, tt))
-finals_made (Kill dir epoch) change =
-    (λ a r. plain (Kill dir epoch) Late a.0 refl tt (nothing, inr refl) r.0.1, (λ a r. plain (Kill dir epoch) Killed a.0 refl tt (nothing, inl (refl, λ name. map.get-empty place_cmp (dir, name))) r.0.1, tt))
-finals_made (Unlink dir name id) change =
-    let other : (0 == id) ≡ false = let some = change.2.0 in grind (arith, nat_tests) in (
-      λ a r. plain (Unlink dir name id) Exists a.0 refl tt (only (dir, name) new_file, says_there (dir, name) new_file (Said Exists ≡ Said Missing) (λ attr. Said Exists ≡ Said (if attr.dir == id then Removed else Exists)) (ap (λ (b : Bool). Said (cond b Removed Exists)) (sym other))) r.0.1,
-      (
-        λ a r. plain (Unlink dir name id) Removed a.0 refl tt (only (dir, name) (new_directory id), says_there (dir, name) (new_directory id) (Said Removed ≡ Said Missing) (λ attr. Said Removed ≡ Said (if attr.dir == id then Removed else Exists)) (ap (λ (b : Bool). Said (cond b Removed Exists)) (sym (eq-eqb id id refl)))) r.0.1,
-        (λ a r. plain (Unlink dir name id) Missing a.0 refl tt (nothing, says_absent (dir, name) _ (λ attr. Said Missing ≡ Said (if attr.dir == id then Removed else Exists)) refl) r.0.1, tt),
-      ),
-    )
-finals_made (Lookup dir name) change = absurd change
-finals_made (Scan dir) change = absurd change
-finals_made (Load dir rows) change = absurd change
-
-final_there : (call : Call) → IsChange call → (text : List ℕ) (said : Final) → Of (final_shape call) text said → FinalText call text said
-final_there call change text said o =
-    let made = each_of (OfTag call) (tags_of call) (finals_made call change) o.args.0 o.ranged.0.1 o.args.1 o.ranged.1 in
-    subst (FinalText call text) (sym o.value_is) (record { reply = made.reply; numbered = made.numbered; text_is = o.text_is ∙ made.text_is })
-
--- what a final is read from
-abbrev Read : Call → Final → Type 0
-Read call said = Of (final_shape call) (final_spelling said) said
-
-read_as : (call : Call) (a said : Final) → Said said ≡ Said a → Read call a → Read call said
-read_as call a said e r = let same : a ≡ said = cc in subst (Read call) same r
-
--- one of two replies, whatever the map has
-one_of_two : (o : Option Attr) (P : Type 0) (Q : Attr → Type 0) → MatchOption o P Q → P ⊎ ((attr : Attr) × Q attr)
-one_of_two None P Q h = inl h
-one_of_two (Some attr) P Q h = inr (attr, h)
-
--- the zeros after a tag without a number
-abbrev zeros : (0 ≤ 0) × (0 ≤ 0)
-zeros = (lit≤ tt, lit≤ tt)
-
-removed_or : (dir : ℕ) (name : List ℕ) (said : Final) (b : Bool) → Said said ≡ Said (cond b Removed IsDir) → Read (Remove dir name) said
-removed_or dir name said true e = read_as (Remove dir name) Removed said e (record { args = (kinds.FINAL_REMOVED, (0, tt)); ranged = ((lit< tt, refl), (zeros, tt)); text_is = refl; value_is = refl })
-removed_or dir name said false e = read_as (Remove dir name) IsDir said e (record { args = (kinds.FINAL_IS_DIR, (0, tt)); ranged = ((lit< tt, refl), (zeros, tt)); text_is = refl; value_is = refl })
-
-unlinked_or : (dir : ℕ) (name : List ℕ) (id : ℕ) (said : Final) (b : Bool) → Said said ≡ Said (cond b Removed Exists) → Read (Unlink dir name id) said
-unlinked_or dir name id said true e = read_as (Unlink dir name id) Removed said e (record { args = (kinds.FINAL_REMOVED, (0, tt)); ranged = ((lit< tt, refl), (zeros, tt)); text_is = refl; value_is = refl })
-unlinked_or dir name id said false e = read_as (Unlink dir name id) Exists said e (record { args = (kinds.FINAL_EXISTS, (0, tt)); ranged = ((lit< tt, refl), (zeros, tt)); text_is = refl; value_is = refl })
-
-made_directory : (dir : ℕ) (name : List ℕ) (said : Final) → IsNumbered said → ((n : ℕ) × (Said said ≡ Said (CreatedDir n))) → Read (Mkdir dir name) said
-made_directory dir name said numbered s =
-    let same : said ≡ CreatedDir s.0 = let e = s.1 in cc in
-    let range : IsDirectory s.0 = subst IsNumbered same numbered in
-    read_as (Mkdir dir name) (CreatedDir s.0) said s.1 (record { args = (kinds.FINAL_CREATED_DIR, (s.0, tt)); ranged = ((lit< tt, refl), (of_directory s.0 range, tt)); text_is = refl; value_is = refl })
-
-grabbed : (dir : ℕ) (name : List ℕ) (count : ℕ) (said : Final) → IsNumbered said → ((n : ℕ) × (Said said ≡ Said (Ids n))) → Read (Grab dir name count) said
-grabbed dir name count said numbered s =
-    let same : said ≡ Ids s.0 = let e = s.1 in cc in
-    let range : (2 ≤ s.0) × (s.0 ≤ 2 ^ 45) = subst IsNumbered same numbered in
-    read_as (Grab dir name count) (Ids s.0) said s.1 (record { args = (kinds.FINAL_IDS, (s.0, tt)); ranged = ((lit< tt, refl), (range, tt)); text_is = refl; value_is = refl })
-
-is_low_byte : (epoch depth : ℕ) → depth ≤ 14 → is_low (epoch % 16 * 16 + depth) ≡ true
-is_low_byte epoch depth small = let low : (epoch % 16 * 16 + depth) % 16 ≤ 14 = omega arith in grind (arith, nat_tests)
-
-sealed_read : (dir part e epoch depth : ℕ) → (depth ≤ 14) × (epoch < 2 ^ 48) → Read (Seal dir part e) (Sealed depth epoch)
-sealed_read dir part e epoch depth numbered =
-    let small = numbered.0 in
-    let few = numbered.1 in
-    let depth_is : (epoch % 16 * 16 + depth) % 16 ≡ depth = omega arith in
-    let epoch_is : epoch / 16 * 16 + (epoch % 16 * 16 + depth) / 16 ≡ epoch = omega arith in
-    record {
-      args = (kinds.FINAL_SEALED, (epoch / 16, (epoch % 16 * 16 + depth, tt)));
-      ranged = ((lit< tt, refl), ((omega arith, omega arith), ((omega arith, is_low_byte epoch depth small), tt)));
-      text_is = ap (λ (t : List ℕ). kinds.FINAL_SEALED ∷ t) (seal_bytes epoch depth small);
-      value_is = ap (λ (d : ℕ). Sealed d epoch) (sym depth_is) ∙ ap (λ (n : ℕ). Sealed ((epoch % 16 * 16 + depth) % 16) n) (sym epoch_is);
-    }
-
-seal_read : (dir part e : ℕ) (said : Final) (entries : Entries) → SealAllows entries dir (Said said) → IsNumbered said → Read (Seal dir part e) said
-seal_read dir part e (Sealed depth epoch) entries may numbered = sealed_read dir part e epoch depth numbered
-seal_read dir part e NotEmpty entries may numbered = record { args = (kinds.FINAL_NOT_EMPTY, (0, tt)); ranged = ((lit< tt, refl), (zeros, tt)); text_is = refl; value_is = refl }
-seal_read dir part e Late entries may numbered = record { args = (kinds.FINAL_LATE, (0, tt)); ranged = ((lit< tt, refl), (zeros, tt)); text_is = refl; value_is = refl }
-seal_read dir part e Killed entries may numbered = record { args = (kinds.FINAL_KILLED, (0, tt)); ranged = ((lit< tt, refl), (zeros, tt)); text_is = refl; value_is = refl }
-seal_read dir part e Created entries may numbered = absurd may
-seal_read dir part e (CreatedDir number) entries may numbered = absurd may
-seal_read dir part e Exists entries may numbered = absurd may
-seal_read dir part e Removed entries may numbered = absurd may
-seal_read dir part e Missing entries may numbered = absurd may
-seal_read dir part e IsDir entries may numbered = absurd may
-seal_read dir part e Set entries may numbered = absurd may
-seal_read dir part e (Ids first) entries may numbered = absurd may
-seal_read dir part e (Loaded count) entries may numbered = absurd may
-seal_read dir part e Stale entries may numbered = absurd may
-seal_read dir part e Opened entries may numbered = absurd may
-
-read_of : (call : Call) (said : Final) → IsChange call → MaySay call said → IsNumbered said → Read call said
-read_of (Create dir name) said change may numbered = elim (one_of_two (map.get may.0 (dir, name)) _ _ may.1) [
-  | inl e ↦ read_as (Create dir name) Created said e (record { args = (kinds.FINAL_CREATED, (0, tt)); ranged = ((lit< tt, refl), (zeros, tt)); text_is = refl; value_is = refl })
-  | inr e ↦ read_as (Create dir name) Exists said e.1 (record { args = (kinds.FINAL_EXISTS, (0, tt)); ranged = ((lit< tt, refl), (zeros, tt)); text_is = refl; value_is = refl })
-]
-read_of (Mkdir dir name) said change may numbered = elim (one_of_two (map.get may.0 (dir, name)) _ _ may.1) [
-  | inl e ↦ made_directory dir name said numbered e
-  | inr e ↦ read_as (Mkdir dir name) Exists said e.1 (record { args = (kinds.FINAL_EXISTS, (0, tt)); ranged = ((lit< tt, refl), (zeros, tt)); text_is = refl; value_is = refl })
-]
-read_of (Remove dir name) said change may numbered = elim (one_of_two (map.get may.0 (dir, name)) _ _ may.1) [
-  | inl e ↦ read_as (Remove dir name) Missing said e (record { args = (kinds.FINAL_MISSING, (0, tt)); ranged = ((lit< tt, refl), (zeros, tt)); text_is = refl; value_is = refl })
-  | inr e ↦ removed_or dir name said (is_file e.0) e.1
-]
-read_of (Setattr dir name mode size stamp) said change may numbered = elim (one_of_two (map.get may.0 (dir, name)) _ _ may.1) [
-  | inl e ↦ read_as (Setattr dir name mode size stamp) Missing said e (record { args = (kinds.FINAL_MISSING, (0, tt)); ranged = ((lit< tt, refl), (zeros, tt)); text_is = refl; value_is = refl })
-  | inr e ↦ read_as (Setattr dir name mode size stamp) Set said e.1 (record { args = (kinds.FINAL_SET, (0, tt)); ranged = ((lit< tt, refl), (zeros, tt)); text_is = refl; value_is = refl })
-]
-read_of (Grab dir name count) said change may numbered = grabbed dir name count said numbered may.1
-read_of (Link dir name id) said change may numbered = elim (one_of_two (map.get may.0 (dir, name)) _ _ may.1) [
-  | inl e ↦ let high = change.2.1 in read_as (Link dir name id) (CreatedDir id) said e (record { args = (kinds.FINAL_CREATED_DIR, (id, tt)); ranged = ((lit< tt, refl), ((omega arith, omega arith), tt)); text_is = refl; value_is = refl })
-  | inr e ↦ read_as (Link dir name id) Exists said e.1 (record { args = (kinds.FINAL_EXISTS, (0, tt)); ranged = ((lit< tt, refl), (zeros, tt)); text_is = refl; value_is = refl })
-]
-read_of (Seal dir part epoch) said change may numbered = seal_read dir part epoch said may.0 may.1 numbered
-read_of (Unseal dir part epoch) said change may numbered = elim may.1 [
-  | inl e ↦ read_as (Unseal dir part epoch) Opened said e (record { args = (kinds.FINAL_OPENED, (0, tt)); ranged = ((lit< tt, refl), (zeros, tt)); text_is = refl; value_is = refl })
-  | inr e ↦ read_as (Unseal dir part epoch) Late said e (record { args = (kinds.FINAL_LATE, (0, tt)); ranged = ((lit< tt, refl), (zeros, tt)); text_is = refl; value_is = refl })
-]
-read_of (Kill dir epoch) said change may numbered = elim may.1 [
-  | inl e ↦ read_as (Kill dir epoch) Killed said e.0 (record { args = (kinds.FINAL_KILLED, (0, tt)); ranged = ((lit< tt, refl), (zeros, tt)); text_is = refl; value_is = refl })
-  | inr e ↦ read_as (Kill dir epoch) Late said e (record { args = (kinds.FINAL_LATE, (0, tt)); ranged = ((lit< tt, refl), (zeros, tt)); text_is = refl; value_is = refl })
-]
-read_of (Unlink dir name id) said change may numbered = elim (one_of_two (map.get may.0 (dir, name)) _ _ may.1) [
-  | inl e ↦ read_as (Unlink dir name id) Missing said e (record { args = (kinds.FINAL_MISSING, (0, tt)); ranged = ((lit< tt, refl), (zeros, tt)); text_is = refl; value_is = refl })
-  | inr e ↦ unlinked_or dir name id said (e.0.dir == id) e.1
-]
-read_of (Lookup dir name) said change may numbered = absurd change
-read_of (Scan dir) said change may numbered = absurd change
-read_of (Load dir rows) said change may numbered = absurd change
-
-final_back : (call : Call) → IsChange call → (text : List ℕ) (said : Final) → FinalText call text said → Of (final_shape call) text said
-final_back call change text said s = let r = read_of call said change s.reply s.numbered in record { args = r.args; ranged = r.ranged; text_is = s.text_is ∙ r.text_is; value_is = r.value_is }
-
-final_parts : (call : Call) → IsChange call → Follows (Of (final_shape call)) (final_at call)
-unfolding final_at sealed_at byte_among
-final_parts call change = shape_reads (final_shape call) (final_sound call change)
-
-pub final_reads : (call : Call) → IsChange call → Follows (FinalText call) (final_at call)
-final_reads call change = same_follows (final_there call change) (final_back call change) (final_parts call change)
+use Rattle.records.proofs.Shapes.{Shape, Done, Byte, Number, Of, Sound, shape_reads, AllOf, each_of}
+use Rattle.records.proofs.Calls.{directory, in_directory, of_directory, lt_on, lt_of, CallText, call_goes, go_after}
+use Rattle.records.proofs.Finals.{FinalText, final_reads, final_opens}
 
 -- ---- heads
 
@@ -580,31 +102,45 @@ head_reads = same_follows head_there head_back head_parts
 -- ---- changes with their replies
 
 -- a change with its reply, and its spelling
-pub record ServedText (text : List ℕ) (item : Record) : Type 0 where
+pub record ServedText (missing : ℕ) (text : List ℕ) (item : Record) : Type 0 where
   pub client : ℕ
   pub seq : ℕ
   pub part : ℕ
   pub call : Call
   pub said : Final
   pub item_is : item ≡ Served client seq part call said
-  pub served : IsServed client seq part call said
+  pub served : IsServed missing client seq part call said
   pub text_is : text ≡ to_be_bytes w32 client ++ (to_be_bytes w64 seq ++ (to_be_bytes w32 part ++ (call_spelling call ++ final_spelling said)))
 
-abbrev ServedParts : List ℕ → Record → Type 0
-ServedParts = Seq (NumberOf 4 1 64) (λ client. Seq (NumberOf 8 1 (2 ^ 64 - 1)) (λ seq. Seq (NumberOf 4 0 1023) (λ part. Seq CallText (λ call. Seq (FinalText call) (λ said. Ends (Served client seq part call said))))))
+-- a call and its final
+abbrev AnsweredParts : (Call → Final → Record) → ℕ → List ℕ → Record → Type 0
+AnsweredParts made = Then CallText (λ call _. Seq (FinalText call) (λ said. Ends (made call said)))
 
-served_parts : Follows ServedParts served_at
+answered_goes : (made : Call → Final → Record) → Goes (AnsweredParts made) (λ bytes. call_at bytes >>= λ call. final_at call.0 call.1 >>= λ said. Ok (made call.0 said.0, said.1))
+answered_goes made = go_in_turn call_goes (λ text call s. (goes_plainly (both_follow (final_reads call s.change) (λ t said f. follows_here (made call said)))).reads) (λ n text call s. answered_opens n call s.change)
+  where
+    answered_opens : (n : ℕ) (call : Call) → IsChangeBut n call → Opens (λ _. Seq (FinalText call) (λ said. Ends (made call said)))
+    answered_opens n call change =
+        let o = final_opens n call change in
+        record { waits = record { looser = λ m n text item le s. s }; text = o.text; value = made call o.value; spelled = record { front = o.text; back = []; value = o.value; parts = sym (append-nil o.text); first = o.spelled; second = record { none = refl; is = refl } } }
+
+abbrev ServedParts : ℕ → List ℕ → Record → Type 0
+ServedParts = Then (λ _. NumberOf 4 1 64) (λ client. Then (λ _. NumberOf 8 1 (2 ^ 64 - 1)) (λ seq. Then (λ _. NumberOf 4 0 1023) (λ part. AnsweredParts (Served client seq part))))
+
+served_parts : Goes ServedParts served_at
 unfolding served_at
-served_parts = both_follow (number_reads 1 64 (lit≤ tt) 4 (lit< tt)) (λ t client s. both_follow (number_reads 1 (2 ^ 64 - 1) (lit≤ tt) 8 (lit< tt)) (λ t seq s. both_follow (number_reads 0 1023 (lit≤ tt) 4 (lit< tt)) (λ t part s. both_follow call_reads (λ t call s. both_follow (final_reads call s.change) (λ t said s. follows_here (Served client seq part call said))))))
+served_parts = go_after (number_reads 1 64 (lit≤ tt) 4 (lit< tt)) (λ client. go_after (number_reads 1 (2 ^ 64 - 1) (lit≤ tt) 8 (lit< tt)) (λ seq. go_after (number_reads 0 1023 (lit≤ tt) 4 (lit< tt)) (λ part. answered_goes (Served client seq part))))
 
-served_there : (text : List ℕ) (item : Record) → ServedParts text item → ServedText text item
-served_there text item s =
+served_there : (n : ℕ) (text : List ℕ) (item : Record) → ServedParts n text item → ServedText n text item
+served_there n text item s =
     let q = s.second in
     let p = q.second in
     let c = p.second in
     let f = c.second in
     let seq_high = q.first.high in
     let part_high = p.first.high in
+    let end : c.back ≡ final_spelling f.value = f.parts ∙ ap (λ (u : List ℕ). u ++ f.back) f.first.text_is ∙ ap (λ (u : List ℕ). final_spelling f.value ++ u) f.second.none ∙ append-nil (final_spelling f.value) in
+    let nine : n - length c.back ≡ n - 9 = ap (λ (u : List ℕ). n - length u) end in
     record {
       client = s.value;
       seq = q.value;
@@ -612,15 +148,14 @@ served_there text item s =
       call = c.value;
       said = f.value;
       item_is = f.second.is;
-      served = record { some_client = s.first.low; few_clients = s.first.high; from_one = q.first.low; fits = omega arith; below = omega arith; change = c.first.change; reply = f.first.reply; numbered = f.first.numbered };
+      served = record { some_client = s.first.low; few_clients = s.first.high; from_one = q.first.low; fits = omega arith; below = omega arith; change = subst (λ (m : ℕ). IsChangeBut m c.value) nine c.first.change; reply = f.first.reply; numbered = f.first.numbered };
       text_is = s.parts ∙ ap (λ (u : List ℕ). u ++ s.back) s.first.text_is ∙ ap (λ (u : List ℕ). to_be_bytes w32 s.value ++ u) (q.parts ∙ ap (λ (u : List ℕ). u ++ q.back) q.first.text_is
           ∙ ap (λ (u : List ℕ). to_be_bytes w64 q.value ++ u) (p.parts ∙ ap (λ (u : List ℕ). u ++ p.back) p.first.text_is
-          ∙ ap (λ (u : List ℕ). to_be_bytes w32 p.value ++ u) (c.parts ∙ ap (λ (u : List ℕ). u ++ c.back) c.first.text_is
-          ∙ ap (λ (u : List ℕ). call_spelling c.value ++ u) (f.parts ∙ ap (λ (u : List ℕ). u ++ f.back) f.first.text_is ∙ ap (λ (u : List ℕ). final_spelling f.value ++ u) f.second.none ∙ append-nil (final_spelling f.value)))));
+          ∙ ap (λ (u : List ℕ). to_be_bytes w32 p.value ++ u) (c.parts ∙ ap (λ (u : List ℕ). u ++ c.back) c.first.text_is ∙ ap (λ (u : List ℕ). call_spelling c.value ++ u) end)));
     }
 
-served_back : (text : List ℕ) (item : Record) → ServedText text item → ServedParts text item
-served_back text item s =
+served_back : (n : ℕ) (text : List ℕ) (item : Record) → ServedText n text item → ServedParts n text item
+served_back n text item s =
     let v = s.served in
     let fits = v.fits in
     let below = v.below in
@@ -661,8 +196,8 @@ served_back text item s =
       };
     }
 
-pub served_reads : Follows ServedText served_at
-served_reads = same_follows served_there served_back served_parts
+pub served_goes : Goes ServedText served_at
+served_goes = same_goes served_there served_back served_parts
 
 -- ---- splits
 
@@ -704,54 +239,65 @@ split_read kind dir part depth s =
 
 -- ---- records
 
-abbrev RecordBody : ℕ → List ℕ → Record → Type 0
-RecordBody kind text item = cond (kind == kinds.RECORD_HEAD) (HeadText text item) (cond (kind == kinds.RECORD_OPENED) (Ends records.Opened text item) (cond (kind == kinds.RECORD_SERVED) (ServedText text item) (Of (split_shape kind) text item)))
+abbrev RecordBody : ℕ → ℕ → List ℕ → Record → Type 0
+RecordBody kind n text item = cond (kind == kinds.RECORD_HEAD) (HeadText text item) (cond (kind == kinds.RECORD_OPENED) (Ends records.Opened text item) (cond (kind == kinds.RECORD_SERVED) (ServedText n text item) (Of (split_shape kind) text item)))
 
-abbrev RecordParts : List ℕ → Record → Type 0
-RecordParts = Seq (OneByte (is_among record_kinds)) RecordBody
+body_goes : (kind : ℕ) → Goes (RecordBody kind) (record_after kind)
+unfolding record_after
+body_goes kind = goes_by_test (kind == kinds.RECORD_HEAD) (λ _. goes_plainly head_reads) (λ _. goes_by_test (kind == kinds.RECORD_OPENED) (λ _. goes_plainly (follows_here records.Opened)) (λ _. goes_by_test (kind == kinds.RECORD_SERVED) (λ _. served_goes) (λ _. goes_plainly (split_reads kind))))
 
-record_parts : Follows RecordParts record_at
-unfolding record_at record_after
-record_parts = both_follow (among_reads record_kinds kinds.RECORD_HEAD (lit< tt) refl) (λ t kind s. by_test (kind == kinds.RECORD_HEAD) (λ _. head_reads) (λ _. by_test (kind == kinds.RECORD_OPENED) (λ _. follows_here records.Opened) (λ _. by_test (kind == kinds.RECORD_SERVED) (λ _. served_reads) (λ _. split_reads kind))))
+abbrev RecordParts : ℕ → List ℕ → Record → Type 0
+RecordParts = Then (λ _. OneByte (is_among record_kinds)) RecordBody
+
+record_parts : Goes RecordParts record_at
+unfolding record_at
+record_parts = go_after (among_reads record_kinds kinds.RECORD_HEAD (lit< tt) refl) body_goes
 
 -- what is read after a kind is a record of this kind, and its spelling
 abbrev IsBody : ℕ → Type 0
-IsBody kind = (text : List ℕ) (item : Record) → RecordBody kind text item → Spells (kind ∷ text) item
+IsBody kind = (n : ℕ) (text : List ℕ) (item : Record) → RecordBody kind n text item → SpellsBut n (kind ∷ text) item
 
 head_body : IsBody kinds.RECORD_HEAD
-head_body text item h = subst (Spells (kinds.RECORD_HEAD ∷ text)) (sym h.item_is) (h.head, ap (λ (t : List ℕ). kinds.RECORD_HEAD ∷ t) h.text_is)
+head_body n text item h = subst (SpellsBut n (kinds.RECORD_HEAD ∷ text)) (sym h.item_is) (h.head, ap (λ (t : List ℕ). kinds.RECORD_HEAD ∷ t) h.text_is)
 
 opened_body : IsBody kinds.RECORD_OPENED
-opened_body text item e = subst (Spells (kinds.RECORD_OPENED ∷ text)) (sym e.is) (tt, ap (λ (t : List ℕ). kinds.RECORD_OPENED ∷ t) e.none)
+opened_body n text item e = subst (SpellsBut n (kinds.RECORD_OPENED ∷ text)) (sym e.is) (tt, ap (λ (t : List ℕ). kinds.RECORD_OPENED ∷ t) e.none)
 
 served_body : IsBody kinds.RECORD_SERVED
-served_body text item v = subst (Spells (kinds.RECORD_SERVED ∷ text)) (sym v.item_is) (v.served, ap (λ (t : List ℕ). kinds.RECORD_SERVED ∷ t) v.text_is)
+served_body n text item v = subst (SpellsBut n (kinds.RECORD_SERVED ∷ text)) (sym v.item_is) (v.served, ap (λ (t : List ℕ). kinds.RECORD_SERVED ∷ t) v.text_is)
 
 begin_body : IsBody kinds.RECORD_BEGIN
-begin_body text item o = let m = split_made kinds.RECORD_BEGIN text item o in subst (Spells (kinds.RECORD_BEGIN ∷ text)) (sym m.3) (m.4, ap (λ (t : List ℕ). kinds.RECORD_BEGIN ∷ t) m.5)
+begin_body n text item o = let m = split_made kinds.RECORD_BEGIN text item o in subst (SpellsBut n (kinds.RECORD_BEGIN ∷ text)) (sym m.3) (m.4, ap (λ (t : List ℕ). kinds.RECORD_BEGIN ∷ t) m.5)
 
 end_body : IsBody kinds.RECORD_END
-end_body text item o = let m = split_made kinds.RECORD_END text item o in subst (Spells (kinds.RECORD_END ∷ text)) (sym m.3) (m.4, ap (λ (t : List ℕ). kinds.RECORD_END ∷ t) m.5)
+end_body n text item o = let m = split_made kinds.RECORD_END text item o in subst (SpellsBut n (kinds.RECORD_END ∷ text)) (sym m.3) (m.4, ap (λ (t : List ℕ). kinds.RECORD_END ∷ t) m.5)
 
 bodies : AllOf IsBody record_kinds
 bodies = (head_body, (opened_body, (served_body, (begin_body, (end_body, tt)))))
 
-record_there : (text : List ℕ) (item : Record) → RecordParts text item → Spells text item
-record_there text item s = subst (λ (t : List ℕ). Spells t item) (sym (s.parts ∙ ap (λ (t : List ℕ). t ++ s.back) s.first.text_is)) (each_of IsBody record_kinds bodies s.value s.first.passes s.back item s.second)
+record_there : (n : ℕ) (text : List ℕ) (item : Record) → RecordParts n text item → SpellsBut n text item
+record_there n text item s = subst (λ (t : List ℕ). SpellsBut n t item) (sym (s.parts ∙ ap (λ (t : List ℕ). t ++ s.back) s.first.text_is)) (each_of IsBody record_kinds bodies s.value s.first.passes n s.back item s.second)
 
 -- a kind, and what follows it
-body_of : (kind : ℕ) (text back : List ℕ) (item : Record) → kind < 256 → is_among record_kinds kind ≡ true → text ≡ kind ∷ back → RecordBody kind back item → RecordParts text item
-body_of kind text back item byte among is body = record { front = kind ∷ []; back = back; value = kind; parts = is; first = record { text_is = refl; byte = byte; passes = among }; second = body }
+body_of : (kind n : ℕ) (text back : List ℕ) (item : Record) → kind < 256 → is_among record_kinds kind ≡ true → text ≡ kind ∷ back → RecordBody kind n back item → RecordParts n text item
+body_of kind n text back item byte among is body = record { front = kind ∷ []; back = back; value = kind; parts = is; first = record { text_is = refl; byte = byte; passes = among }; second = body }
 
-record_back : (text : List ℕ) (item : Record) → Spells text item → RecordParts text item
-record_back text (Head format servers server threshold) s = body_of kinds.RECORD_HEAD text (format ∷ (to_be_bytes w32 servers ++ (to_be_bytes w32 server ++ to_be_bytes w32 threshold))) (Head format servers server threshold) (lit< tt) refl s.1 (record { format = format; servers = servers; server = server; threshold = threshold; item_is = refl; head = s.0; text_is = refl })
-record_back text records.Opened s = body_of kinds.RECORD_OPENED text [] records.Opened (lit< tt) refl s.1 (record { none = refl; is = refl })
-record_back text (Served client seq part call said) s =
-    body_of kinds.RECORD_SERVED text (to_be_bytes w32 client ++ (to_be_bytes w64 seq ++ (to_be_bytes w32 part ++ (call_spelling call ++ final_spelling said)))) (Served client seq part call said) (lit< tt) refl s.1
+record_back : (n : ℕ) (text : List ℕ) (item : Record) → SpellsBut n text item → RecordParts n text item
+record_back n text (Head format servers server threshold) s = body_of kinds.RECORD_HEAD n text (format ∷ (to_be_bytes w32 servers ++ (to_be_bytes w32 server ++ to_be_bytes w32 threshold))) (Head format servers server threshold) (lit< tt) refl s.1 (record { format = format; servers = servers; server = server; threshold = threshold; item_is = refl; head = s.0; text_is = refl })
+record_back n text records.Opened s = body_of kinds.RECORD_OPENED n text [] records.Opened (lit< tt) refl s.1 (record { none = refl; is = refl })
+record_back n text (Served client seq part call said) s =
+    body_of kinds.RECORD_SERVED n text (to_be_bytes w32 client ++ (to_be_bytes w64 seq ++ (to_be_bytes w32 part ++ (call_spelling call ++ final_spelling said)))) (Served client seq part call said) (lit< tt) refl s.1
     (record { client = client; seq = seq; part = part; call = call; said = said; item_is = refl; served = s.0; text_is = refl })
-record_back text (Begin dir part depth) s = body_of kinds.RECORD_BEGIN text (split_spelling dir part depth) (Begin dir part depth) (lit< tt) refl s.1 (split_read kinds.RECORD_BEGIN dir part depth s.0)
-record_back text (End dir part depth) s = body_of kinds.RECORD_END text (split_spelling dir part depth) (End dir part depth) (lit< tt) refl s.1 (split_read kinds.RECORD_END dir part depth s.0)
-record_back text (Install dir part depth bitmap sessions rows) s = absurd s.0
+record_back n text (Begin dir part depth) s = body_of kinds.RECORD_BEGIN n text (split_spelling dir part depth) (Begin dir part depth) (lit< tt) refl s.1 (split_read kinds.RECORD_BEGIN dir part depth s.0)
+record_back n text (End dir part depth) s = body_of kinds.RECORD_END n text (split_spelling dir part depth) (End dir part depth) (lit< tt) refl s.1 (split_read kinds.RECORD_END dir part depth s.0)
+record_back n text (Install dir part depth bitmap sessions rows) s = absurd s.0
 
-pub record_reads : Follows Spells record_at
-record_reads = same_follows record_there record_back record_parts
+pub record_goes : Goes SpellsBut record_at
+record_goes = same_goes record_there record_back record_parts
+
+-- records are read exactly
+pub record_reads : Reads SpellsBut record_at
+record_reads = record_goes.reads
+
+pub record_waits : Waits SpellsBut
+record_waits = record_goes.opens.waits

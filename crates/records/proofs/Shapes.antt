@@ -93,7 +93,7 @@ join_pick : {X : Type 0} (b : Bool) (front : List ℕ) (s t : Shape X) → ((a :
 join_pick true front s t one other a = one a
 join_pick false front s t one other a = other a
 
-join_is : {X : Type 0} (front : List ℕ) (s : Shape X) (a : Args s) → joined front s a ≡ front ++ text_of s a
+pub join_is : {X : Type 0} (front : List ℕ) (s : Shape X) (a : Args s) → joined front s a ≡ front ++ text_of s a
 join_is front (Done x) a = sym (append-nil front)
 join_is front (Byte test f) a = refl
 join_is front (Number width least most f) a = refl

@@ -1,4 +1,5 @@
 pub mod Messages
+pub mod Rows
 pub mod Spelling
 pub mod Faults
 pub mod Reading

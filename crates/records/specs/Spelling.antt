@@ -1,5 +1,5 @@
 -- Records as bytes: which records have a spelling, and the one spelling of each. It knows no reader and no writer.
-use Rattle.std.specs.Prelude.{◌≡◌, ℕ, ◌+◌, ◌<◌, ◌≤◌, ◌^◌, ◌*◌, List, [], ◌∷◌, ◌++◌, length, take, Option, Some, None, Result, Err, IsTrue}
+use Rattle.std.specs.Prelude.{◌≡◌, ℕ, ◌+◌, ◌-◌, ◌<◌, ◌≤◌, ◌^◌, ◌*◌, List, [], ◌∷◌, ◌++◌, length, take, Option, Some, None, Result, Err, IsTrue, false}
 use Rattle.std.specs.Int.{w16, w32, w64, to_be_bytes}
 use Rattle.mds_base.specs.declared.attr.Stamp.{Stamp}
 use Rattle.mds_base.specs.declared.call.Call.{Call}
@@ -9,11 +9,14 @@ use Rattle.mds_base.specs.declared.reply.Final.TheVariants.{Created, CreatedDir,
 use Rattle.mds_base.specs.declared.reply.Reply.TheVariants.{Said}
 use Rattle.mds_base.specs.Name.{is_name}
 use Rattle.mds_base.specs.Entries.{Entries}
+use Rattle.mds_base.specs.declared.row.Row.{Row}
 use Rattle.mds_base.specs.PlainRules.{Allows}
+use Rattle.std.specs.List.{AllByRecursion}
 use Rattle.records.specs.declared.fault.RecordFault.{RecordFault}
 use Rattle.records.specs.declared.fault.RecordFault.TheVariants.{OutOfMemory}
 use Rattle.records.specs.declared.kinds.TheConstants as kinds
 use Rattle.records.specs.declared.record.Record.{Record}
+use Rattle.records.specs.Rows.{name_spelling, rows_spelling, IsRow, AreRising}
 use Rattle.records.specs.declared.record.Record.TheVariants as records
 use Rattle.records.specs.declared.record.Record.TheVariants.{Head, Served, Begin, Install, End}
 
@@ -28,21 +31,32 @@ abbrev pub IsStamp : Option Stamp → Type 0
 IsStamp None = Unit {0}
 IsStamp (Some stamp) = (stamp.owner < 2 ^ 32) × (stamp.mtime < 2 ^ 64)
 
+-- the rows of a load: 1 to 4096 that rise, without stamps
+pub record IsLoad (missing : ℕ) (rows : List Row) : Type 0 where
+  pub some : 1 ≤ length rows
+  pub few : length rows ≤ 4096
+  pub rising : AreRising false missing None rows
+  pub each : AllByRecursion (IsRow false) rows
+
+-- a call that a log keeps, as far as can be said while the last `missing` bytes of its spelling are still to come
+abbrev pub IsChangeBut : ℕ → Call → Type 0
+IsChangeBut missing (Create dir name) = IsDirectory dir × IsTrue (is_name name)
+IsChangeBut missing (Mkdir dir name) = IsDirectory dir × IsTrue (is_name name)
+IsChangeBut missing (Remove dir name) = IsDirectory dir × IsTrue (is_name name)
+IsChangeBut missing (Setattr dir name mode size stamp) = IsDirectory dir × IsTrue (is_name name) × (mode ≤ 4095) × (size < 2 ^ 64) × IsStamp stamp
+IsChangeBut missing (Lookup dir name) = ⊥
+IsChangeBut missing (Scan dir) = ⊥
+IsChangeBut missing (Grab dir name count) = IsDirectory dir × IsTrue (is_name name) × (1 ≤ count) × (count ≤ 4096)
+IsChangeBut missing (Load dir rows) = IsDirectory dir × IsLoad missing rows
+IsChangeBut missing (Link dir name id) = IsDirectory dir × IsTrue (is_name name) × IsDirectory id
+IsChangeBut missing (Seal dir part epoch) = IsDirectory dir × (part < 1024) × (epoch < 2 ^ 48)
+IsChangeBut missing (Unseal dir part epoch) = IsDirectory dir × (part < 1024) × (epoch < 2 ^ 48)
+IsChangeBut missing (Kill dir epoch) = IsDirectory dir × (epoch < 2 ^ 48)
+IsChangeBut missing (Unlink dir name id) = IsDirectory dir × IsTrue (is_name name) × IsDirectory id
+
 -- a call that a log keeps
 abbrev pub IsChange : Call → Type 0
-IsChange (Create dir name) = IsDirectory dir × IsTrue (is_name name)
-IsChange (Mkdir dir name) = IsDirectory dir × IsTrue (is_name name)
-IsChange (Remove dir name) = IsDirectory dir × IsTrue (is_name name)
-IsChange (Setattr dir name mode size stamp) = IsDirectory dir × IsTrue (is_name name) × (mode ≤ 4095) × (size < 2 ^ 64) × IsStamp stamp
-IsChange (Lookup dir name) = ⊥
-IsChange (Scan dir) = ⊥
-IsChange (Grab dir name count) = IsDirectory dir × IsTrue (is_name name) × (1 ≤ count) × (count ≤ 4096)
-IsChange (Load dir rows) = ⊥
-IsChange (Link dir name id) = IsDirectory dir × IsTrue (is_name name) × IsDirectory id
-IsChange (Seal dir part epoch) = IsDirectory dir × (part < 1024) × (epoch < 2 ^ 48)
-IsChange (Unseal dir part epoch) = IsDirectory dir × (part < 1024) × (epoch < 2 ^ 48)
-IsChange (Kill dir epoch) = IsDirectory dir × (epoch < 2 ^ 48)
-IsChange (Unlink dir name id) = IsDirectory dir × IsTrue (is_name name) × IsDirectory id
+IsChange call = IsChangeBut 0 call
 
 -- a final that the plain rules allow for the call on some map
 abbrev pub MaySay : Call → Final → Type 0
@@ -65,14 +79,14 @@ pub record IsHead (format servers server threshold : ℕ) : Type 0 where
   pub some_row : 1 ≤ threshold
   pub few_rows : threshold ≤ 8000
 
--- a change with its reply
-pub record IsServed (client seq part : ℕ) (call : Call) (said : Final) : Type 0 where
+-- a change with its reply, whose final has the last 9 bytes
+pub record IsServed (missing client seq part : ℕ) (call : Call) (said : Final) : Type 0 where
   pub some_client : 1 ≤ client
   pub few_clients : client ≤ 64
   pub from_one : 1 ≤ seq
   pub fits : seq < 2 ^ 64
   pub below : part < 1024
-  pub change : IsChange call
+  pub change : IsChangeBut (missing - 9) call
   pub reply : MaySay call said
   pub numbered : IsNumbered said
 
@@ -82,20 +96,20 @@ pub record IsSplit (dir part depth : ℕ) : Type 0 where
   pub shallow : depth < 10
   pub below : part < 2 ^ depth
 
+-- a record that has a spelling, as far as can be said while the last `missing` bytes of it are still to come
+abbrev pub IsRecordBut : ℕ → Record → Type 0
+IsRecordBut missing (Head format servers server threshold) = IsHead format servers server threshold
+IsRecordBut missing records.Opened = Unit {0}
+IsRecordBut missing (Served client seq part call said) = IsServed missing client seq part call said
+IsRecordBut missing (Begin dir part depth) = IsSplit dir part depth
+IsRecordBut missing (Install dir part depth bitmap sessions rows) = ⊥
+IsRecordBut missing (End dir part depth) = IsSplit dir part depth
+
 -- a record that has a spelling
 abbrev pub IsRecord : Record → Type 0
-IsRecord (Head format servers server threshold) = IsHead format servers server threshold
-IsRecord records.Opened = Unit {0}
-IsRecord (Served client seq part call said) = IsServed client seq part call said
-IsRecord (Begin dir part depth) = IsSplit dir part depth
-IsRecord (Install dir part depth bitmap sessions rows) = ⊥
-IsRecord (End dir part depth) = IsSplit dir part depth
+IsRecord item = IsRecordBut 0 item
 
 -- ---- the spellings
-
--- the length of a name in one byte, and its bytes
-abbrev pub name_spelling : List ℕ → List ℕ
-name_spelling name = length name ∷ name
 
 -- the kind of a call, its directory, and what belongs to the kind
 abbrev pub call_spelling : Call → List ℕ
@@ -105,6 +119,7 @@ call_spelling (Remove dir name) = kinds.CALL_REMOVE ∷ (to_be_bytes w64 dir ++ 
 call_spelling (Setattr dir name mode size None) = kinds.CALL_SETATTR ∷ (to_be_bytes w64 dir ++ (name_spelling name ++ (to_be_bytes w16 mode ++ to_be_bytes w64 size)))
 call_spelling (Setattr dir name mode size (Some stamp)) = kinds.CALL_STAMP ∷ (to_be_bytes w64 dir ++ (name_spelling name ++ (to_be_bytes w16 mode ++ (to_be_bytes w64 size ++ (to_be_bytes w32 stamp.owner ++ to_be_bytes w64 stamp.mtime)))))
 call_spelling (Grab dir name count) = kinds.CALL_GRAB ∷ (to_be_bytes w64 dir ++ (name_spelling name ++ to_be_bytes w32 count))
+call_spelling (Load dir rows) = kinds.CALL_LOAD ∷ (to_be_bytes w64 dir ++ rows_spelling false rows)
 call_spelling (Link dir name id) = kinds.CALL_LINK ∷ (to_be_bytes w64 dir ++ (name_spelling name ++ to_be_bytes w64 id))
 call_spelling (Seal dir part epoch) = kinds.CALL_SEAL ∷ (to_be_bytes w64 dir ++ (to_be_bytes w32 part ++ to_be_bytes w64 epoch))
 call_spelling (Unseal dir part epoch) = kinds.CALL_UNSEAL ∷ (to_be_bytes w64 dir ++ (to_be_bytes w32 part ++ to_be_bytes w64 epoch))
@@ -153,21 +168,25 @@ record_spelling (Begin dir part depth) = kinds.RECORD_BEGIN ∷ split_spelling d
 record_spelling (End dir part depth) = kinds.RECORD_END ∷ split_spelling dir part depth
 record_spelling (Install dir part depth bitmap sessions rows) = []
 
+-- these bytes spell the record, as far as can be said while the last `missing` of them are still to come
+abbrev pub SpellsBut : ℕ → List ℕ → Record → Type 0
+SpellsBut missing bytes item = IsRecordBut missing item × (bytes ≡ record_spelling item)
+
 -- these bytes spell the record
 abbrev pub Spells : List ℕ → Record → Type 0
-Spells bytes item = IsRecord item × (bytes ≡ record_spelling item)
+Spells bytes item = SpellsBut 0 bytes item
 
 -- ---- where no record begins the bytes
 
--- the bytes are a proper prefix of some spelling
+-- more bytes may come that make a spelling of the bytes; a name that is not whole yet is taken to rise
 abbrev pub IsBegun : List ℕ → Type 0
-IsBegun bytes = (more : List ℕ) × (item : Record) × (0 < length more) × Spells (bytes ++ more) item
+IsBegun bytes = (more : List ℕ) × (item : Record) × (0 < length more) × SpellsBut (length more) (bytes ++ more) item
 
--- the byte at this place is the first after which no spelling can follow
+-- the byte at this place is the first after which nothing can become a spelling
 pub record IsBadAt (bytes : List ℕ) (place : ℕ) : Type 0 where
   pub within : place < length bytes
   pub before : IsBegun (take place bytes)
-  pub after : (more : List ℕ) (item : Record) → Spells (take (place + 1) bytes ++ more) item → ⊥
+  pub after : (more : List ℕ) (item : Record) → SpellsBut (length more) (take (place + 1) bytes ++ more) item → ⊥
 
 -- it is this answer, unless memory ran out
 abbrev pub GivesOrMemory : Result (Record × ℕ) RecordFault → Result (Record × ℕ) RecordFault → Type 0

@@ -30,6 +30,9 @@ pub const CALL_SETATTR: u8 = 4;
 /// The kind of a grab.
 pub const CALL_GRAB: u8 = 5;
 
+/// The kind of a load.
+pub const CALL_LOAD: u8 = 6;
+
 /// The kind of a link.
 pub const CALL_LINK: u8 = 7;
 

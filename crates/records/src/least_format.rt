@@ -51,7 +51,8 @@ fn format_of_final(said: &Final) -> u8
     }
 }
 
-fn some_stamped(rows: &[Row]) -> bool
+/// Whether some row has an owner or a time of modification that is not 0.
+pub(crate) fn some_stamped(rows: &[Row]) -> bool
     ensures { result ≡ some_stamped_of rows.now }
 {
     rows.iter().any(|row| row.attr.is_stamped())

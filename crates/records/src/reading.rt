@@ -1,20 +1,27 @@
-ghost use Rattle.std.specs.Prelude.{◌≡◌, ℕ, ◌≤◌, ◌<◌, ◌^◌, ◌-◌, List, [], ◌++◌, length, take, IfOk, IsErrOf, MatchOption};
+ghost use Rattle.std.specs.Prelude.{◌≡◌, ℕ, ◌≤◌, ◌<◌, ◌^◌, ◌-◌, List, [], ◌++◌, length, take, min, IfOk, IsErrOf, MatchOption};
+ghost use Rattle.std.specs.Option.{option_copied};
+ghost use Rattle.records.specs.Rows.{last_of, comes_after};
+ghost use Rattle.std.specs.Prelude.{◌&&◌, ◌==◌, if◌then◌else◌};
+ghost use Rattle.records.specs.declared.kinds.TheConstants.{FINAL_LOADED};
 ghost use Rattle.records.specs.declared.record.Record.{Record};
 ghost use Rattle.records.specs.Faults.{Gives};
 ghost use Rattle.records.specs.Spelling.{Spells, IsBegun, IsBadAt, GivesOrMemory};
-ghost use Rattle.records.specs.Reading.{byte_where, byte_among, number_at, from_foreign, text_at, name_at, set_after, named_after, call_after, call_at, tags_of, least_of, most_of, final_of, is_low, sealed_at, final_at, head_at, served_at, is_depth, split_at, record_at};
+ghost use Rattle.records.specs.Reading.{byte_where, byte_among, number_at, from_foreign, text_at, name_at, rising_at, row_with, stamp_at, attr_at, must_be_stamped, row_at, list_after, rows_at, set_after, named_after, other_after, call_after, call_at, tags_of, least_of, most_of, final_of, is_low, sealed_at, final_at, head_at, served_at, is_depth, split_at, record_at};
 
 use crate::fault::{Fault, RecordFault, Stop};
 use crate::kinds::{
-    CALL_CREATE, CALL_GRAB, CALL_KILL, CALL_LINK, CALL_MKDIR, CALL_REMOVE, CALL_SEAL, CALL_SETATTR,
-    CALL_STAMP, CALL_UNLINK, CALL_UNSEAL, FINAL_CREATED, FINAL_CREATED_DIR, FINAL_EXISTS,
-    FINAL_IDS, FINAL_IS_DIR, FINAL_KILLED, FINAL_LATE, FINAL_MISSING, FINAL_NOT_EMPTY,
-    FINAL_OPENED, FINAL_REMOVED, FINAL_SEALED, FINAL_SET, RECORD_BEGIN, RECORD_END, RECORD_HEAD,
-    RECORD_OPENED, RECORD_SERVED,
+    CALL_CREATE, CALL_GRAB, CALL_KILL, CALL_LINK, CALL_LOAD, CALL_MKDIR, CALL_REMOVE, CALL_SEAL,
+    CALL_SETATTR, CALL_STAMP, CALL_UNLINK, CALL_UNSEAL, FINAL_CREATED, FINAL_CREATED_DIR,
+    FINAL_EXISTS, FINAL_IDS, FINAL_IS_DIR, FINAL_KILLED, FINAL_LATE, FINAL_LOADED, FINAL_MISSING,
+    FINAL_NOT_EMPTY, FINAL_OPENED, FINAL_REMOVED, FINAL_SEALED, FINAL_SET, FINAL_STALE,
+    RECORD_BEGIN, RECORD_END, RECORD_HEAD, RECORD_OPENED, RECORD_SERVED,
 };
+use crate::least_format::some_stamped;
 use crate::record::Record;
-use mds_base::limits::{DIRECTORIES, EPOCHS};
-use mds_base::{Call, Final, Name, NameFault, Stamp};
+use chains::reverse;
+use mds_base::limits::{DIRECTORIES, EPOCHS, LOAD_MOST};
+use mds_base::{Attr, Call, Final, Name, NameFault, Row, RowList, Stamp};
+use name_hash::hash;
 use std::alloc::Global;
 
 #[tactic(auto, unfolding(crate::specs::Reading::byte_among, crate::specs::Reading::byte_where))]
@@ -91,6 +98,153 @@ fn foreign(bytes: &[u8]) -> Option<usize>
     None
 }
 
+// The last of some rows.
+fn last(rows: &[Row]) -> Option<&Row>
+    ensures { option_copied result ≡ last_of rows.now }
+{
+    match rows.len() {
+        0 => None,
+        len => rows.get(len - 1),
+    }
+}
+
+// Whether a name stands behind that of the last row in the order of a scan.
+fn comes_after(rows: &[Row], name: &Name) -> bool
+    ensures { result ≡ comes_after (last_of rows.now) name.now }
+{
+    match last(rows) {
+        None => true,
+        Some(row) => {
+            let from = reverse(hash(&row.name));
+            let to = reverse(hash(name));
+            from.cmp(&to).then(row.name.cmp(name)).is_lt()
+        }
+    }
+}
+
+#[tactic(auto, unfolding(crate::specs::Reading::rising_at))]
+fn rising<'a>(alloc: Global, rows: &[Row], bytes: &'a [u8]) -> Result<(Name, &'a [u8]), Stop>
+    ensures { Gives (λ x. (x.0, x.1.now)) result (rising_at (last_of rows.now) bytes.now) }
+{
+    let (name, rest) = name(alloc, bytes)?;
+    if comes_after(rows, &name) {
+        Ok((name, rest))
+    } else {
+        Err(Stop::Fault(Fault::Bad(rest.len() + 1)))
+    }
+}
+
+// The least time of modification that a row may have which must be stamped, or need not be.
+fn least_time(must: bool, owner: u64) -> u64
+    ensures { result ≡ (if must && (owner == 0) then 1 else 0) }
+{
+    if must && owner == 0 { 1 } else { 0 }
+}
+
+#[tactic(auto, unfolding(crate::specs::Reading::stamp_at))]
+fn stamped_row(
+    must: bool,
+    name: Name,
+    dir: u64,
+    mode: u32,
+    size: u64,
+    bytes: &[u8],
+) -> Result<(Row, &[u8]), Stop>
+    ensures { Gives (λ x. (x.0, x.1.now)) result (stamp_at must (row_with name dir mode size) bytes.now) }
+{
+    let (owner, rest) = number(bytes, 4, 0, u32::MAX as u64)?;
+    let (mtime, rest) = number(rest, 8, least_time(must, owner), u64::MAX)?;
+    let attr = Attr {
+        dir,
+        mode,
+        size,
+        owner: owner as u32,
+        mtime,
+    };
+    Ok((Row { name, attr }, rest))
+}
+
+#[tactic(auto, unfolding(crate::specs::Reading::attr_at))]
+fn attributes(stamped: bool, must: bool, name: Name, bytes: &[u8]) -> Result<(Row, &[u8]), Stop>
+    ensures { Gives (λ x. (x.0, x.1.now)) result (attr_at stamped must name bytes.now) }
+{
+    let (dir, rest) = number(bytes, 8, 0, DIRECTORIES - 1)?;
+    let (mode, rest) = number(rest, 2, 0, 4095)?;
+    let (size, rest) = number(rest, 8, 0, u64::MAX)?;
+    let mode = mode as u32;
+    if stamped {
+        return stamped_row(must, name, dir, mode, size, rest);
+    }
+    let attr = Attr {
+        dir,
+        mode,
+        size,
+        owner: 0,
+        mtime: 0,
+    };
+    Ok((Row { name, attr }, rest))
+}
+
+// Whether the row behind these is the last that can bring the stamp that one of them must have.
+fn must_be_stamped(stamped: bool, rows: &[Row], left: u64) -> bool
+    ensures { result ≡ must_be_stamped stamped rows.now left }
+{
+    stamped && left == 0 && !some_stamped(rows)
+}
+
+// A row behind others, of which `left` more follow.
+#[tactic(auto, unfolding(crate::specs::Reading::row_at))]
+fn row<'a>(
+    alloc: Global,
+    stamped: bool,
+    rows: &[Row],
+    left: u64,
+    bytes: &'a [u8],
+) -> Result<(Row, &'a [u8]), Stop>
+    ensures { Gives (λ x. (x.0, x.1.now)) result (row_at stamped rows.now left bytes.now) }
+{
+    let must = must_be_stamped(stamped, rows, left);
+    let (name, rest) = rising(alloc, rows, bytes)?;
+    attributes(stamped, must, name, rest)
+}
+
+fn row_list(
+    alloc: Global,
+    stamped: bool,
+    count: u64,
+    bytes: &[u8],
+) -> Result<(RowList, &[u8]), Stop>
+    ensures { Gives (λ x. (x.0, x.1.now)) result (list_after (row_at stamped) [] count bytes.now) }
+{
+    let mut rows = RowList::new(alloc);
+    let mut rest = bytes;
+    for place in 0..count {
+        match row(alloc, stamped, rows.rows(), count - 1 - place, rest) {
+            Ok((next, after)) => {
+                rows.push(next)?;
+                rest = after;
+            }
+            Err(stop) => return Err(stop),
+        }
+    }
+    Ok((rows, rest))
+}
+
+#[tactic(auto, unfolding(crate::specs::Reading::rows_at))]
+fn rows(
+    alloc: Global,
+    stamped: bool,
+    least: u64,
+    most: u64,
+    bytes: &[u8],
+) -> Result<(RowList, &[u8]), Stop>
+    requires { (least ≤ most) × (most < 2 ^ 32) }
+    ensures { Gives (λ x. (x.0, x.1.now)) result (rows_at stamped least most bytes.now) }
+{
+    let (count, rest) = number(bytes, 4, least, most)?;
+    row_list(alloc, stamped, count, rest)
+}
+
 #[tactic(auto, unfolding(crate::specs::Reading::set_after))]
 fn set_of(
     kind: u8,
@@ -155,6 +309,20 @@ fn call_of(alloc: Global, kind: u8, dir: u64, bytes: &[u8]) -> Result<(Call, &[u
     ensures { Gives (λ x. (x.0, x.1.now)) result (call_after kind dir bytes.now) }
 {
     match kind {
+        CALL_LOAD => {
+            let (rows, rest) = rows(alloc, false, 1, LOAD_MOST as u64, bytes)?;
+            Ok((Call::Load { dir, rows }, rest))
+        }
+        _ => other(alloc, kind, dir, bytes),
+    }
+}
+
+// A call other than a load.
+#[tactic(auto, unfolding(crate::specs::Reading::other_after))]
+fn other(alloc: Global, kind: u8, dir: u64, bytes: &[u8]) -> Result<(Call, &[u8]), Stop>
+    ensures { Gives (λ x. (x.0, x.1.now)) result (other_after kind dir bytes.now) }
+{
+    match kind {
         CALL_SEAL => {
             let (part, rest) = number(bytes, 4, 0, 1023)?;
             let (epoch, rest) = number(rest, 8, 0, EPOCHS - 1)?;
@@ -178,12 +346,13 @@ fn call_of(alloc: Global, kind: u8, dir: u64, bytes: &[u8]) -> Result<(Call, &[u
     }
 }
 
-const CALL_KINDS: [u8; 11] = [
+const CALL_KINDS: [u8; 12] = [
     CALL_CREATE,
     CALL_MKDIR,
     CALL_REMOVE,
     CALL_SETATTR,
     CALL_GRAB,
+    CALL_LOAD,
     CALL_LINK,
     CALL_STAMP,
     CALL_SEAL,
@@ -217,8 +386,15 @@ fn tags(call: &Call) -> &'static [u8]
         Call::Unlink { .. } => &[FINAL_EXISTS, FINAL_REMOVED, FINAL_MISSING],
         Call::Lookup { .. } => &[],
         Call::Scan { .. } => &[],
-        Call::Load { .. } => &[],
+        Call::Load { .. } => &[FINAL_LOADED, FINAL_STALE],
     }
+}
+
+// The most rows of a load that may have been added.
+fn most_loaded(rows: &[Row]) -> u64
+    ensures { result ≡ min (length rows.now) 4096 }
+{
+    rows.len().min(LOAD_MOST as usize) as u64
 }
 
 // The range of the number that follows a tag.
@@ -226,8 +402,13 @@ fn range(call: &Call, tag: u8) -> (u64, u64)
     ensures least { result.0 ≡ least_of call.now tag }
     ensures most { result.1 ≡ most_of call.now tag }
     ensures ordered { result.0 ≤ result.1 }
+    ensures few { tag ≡ FINAL_LOADED → result.1 ≤ 4096 }
 {
     match call {
+        Call::Load { rows, .. } => match tag {
+            FINAL_LOADED => (0, most_loaded(rows.rows())),
+            _ => (0, 0),
+        },
         Call::Link { id, .. } => match tag {
             FINAL_CREATED_DIR => (*id, *id),
             _ => (0, 0),
@@ -241,6 +422,7 @@ fn range(call: &Call, tag: u8) -> (u64, u64)
 }
 
 fn final_with(tag: u8, number: u64) -> Final
+    requires { tag ≡ FINAL_LOADED → number ≤ 4096 }
     ensures { result ≡ final_of tag number }
 {
     match tag {
@@ -252,6 +434,8 @@ fn final_with(tag: u8, number: u64) -> Final
         FINAL_IS_DIR => Final::IsDir,
         FINAL_SET => Final::Set,
         FINAL_IDS => Final::Ids(number),
+        FINAL_LOADED => Final::Loaded(number as u32),
+        FINAL_STALE => Final::Stale,
         FINAL_NOT_EMPTY => Final::NotEmpty,
         FINAL_LATE => Final::Late,
         FINAL_OPENED => Final::Opened,

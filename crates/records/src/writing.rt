@@ -1,19 +1,21 @@
-ghost use Rattle.std.specs.Prelude.{◌≡◌, ◌++◌, ◌∷◌, OnOk, OnErr};
+ghost use Rattle.std.specs.Prelude.{◌≡◌, ◌<◌, ◌^◌, ◌++◌, ◌∷◌, length, false, OnOk, OnErr};
+ghost use Rattle.std.specs.List.{AllByRecursion, flat_map};
 ghost use Rattle.std.specs.Int.{w16, w32, w64, to_be_bytes};
 ghost use Rattle.mds_base.specs.declared.call.Call.TheVariants.{Setattr};
-ghost use Rattle.records.specs.declared.kinds.TheConstants.{CALL_KILL};
-ghost use Rattle.records.specs.Spelling.{IsChange, IsNumbered, IsRecord, name_spelling, call_spelling, tag_of, number_of, final_spelling, split_spelling, record_spelling};
+ghost use Rattle.records.specs.declared.kinds.TheConstants.{CALL_KILL, CALL_LOAD};
+ghost use Rattle.records.specs.Rows.{IsRow, name_spelling, attr_spelling, row_spelling, rows_spelling};
+ghost use Rattle.records.specs.Spelling.{IsChange, IsNumbered, IsRecord, call_spelling, tag_of, number_of, final_spelling, split_spelling, record_spelling};
 
 use crate::kinds::{
-    CALL_CREATE, CALL_GRAB, CALL_KILL, CALL_LINK, CALL_MKDIR, CALL_REMOVE, CALL_SEAL, CALL_SETATTR,
-    CALL_STAMP, CALL_UNLINK, CALL_UNSEAL, FINAL_CREATED, FINAL_CREATED_DIR, FINAL_EXISTS,
-    FINAL_IDS, FINAL_IS_DIR, FINAL_KILLED, FINAL_LATE, FINAL_LOADED, FINAL_MISSING,
+    CALL_CREATE, CALL_GRAB, CALL_KILL, CALL_LINK, CALL_LOAD, CALL_MKDIR, CALL_REMOVE, CALL_SEAL,
+    CALL_SETATTR, CALL_STAMP, CALL_UNLINK, CALL_UNSEAL, FINAL_CREATED, FINAL_CREATED_DIR,
+    FINAL_EXISTS, FINAL_IDS, FINAL_IS_DIR, FINAL_KILLED, FINAL_LATE, FINAL_LOADED, FINAL_MISSING,
     FINAL_NOT_EMPTY, FINAL_OPENED, FINAL_REMOVED, FINAL_SEALED, FINAL_SET, FINAL_STALE,
     RECORD_BEGIN, RECORD_END, RECORD_HEAD, RECORD_OPENED, RECORD_SERVED,
 };
 use crate::record::Record;
 use byteorder::{BigEndian, ByteOrder};
-use mds_base::{Call, Final, Name, Stamp};
+use mds_base::{Attr, Call, Final, Name, Row, Stamp};
 use std::alloc::{AllocError, Global};
 
 fn put_u16(out: &mut Vec<u8>, number: u16) -> Result<(), AllocError>
@@ -110,6 +112,73 @@ fn put_stamped(out: &mut Vec<u8>, size: u64, owner: u32, mtime: u64) -> Result<(
     put_u64(out, mtime)
 }
 
+// The owner and the time of attributes.
+fn put_stamp(out: &mut Vec<u8>, owner: u32, mtime: u64) -> Result<(), AllocError>
+    ensures { OnOk result (out.new.items ≡ out.old.items ++ (to_be_bytes w32 owner ++ to_be_bytes w64 mtime)) }
+{
+    put_u32(out, owner)?;
+    put_u64(out, mtime)
+}
+
+// The directory, the mode and the size of attributes.
+fn put_numbered(out: &mut Vec<u8>, dir: u64, mode: u16, size: u64) -> Result<(), AllocError>
+    ensures { OnOk result (out.new.items ≡ out.old.items ++ (to_be_bytes w64 dir ++ (to_be_bytes w16 mode ++ to_be_bytes w64 size))) }
+{
+    put_u64(out, dir)?;
+    put_u16(out, mode)?;
+    put_u64(out, size)
+}
+
+fn put_attr(out: &mut Vec<u8>, stamped: bool, attr: &Attr) -> Result<(), AllocError>
+    requires { attr.now.mode < 2 ^ 16 }
+    ensures { OnOk result (out.new.items ≡ out.old.items ++ attr_spelling stamped attr.now) }
+{
+    put_numbered(out, attr.dir, attr.mode as u16, attr.size)?;
+    if stamped {
+        return put_stamp(out, attr.owner, attr.mtime);
+    }
+    Ok(())
+}
+
+fn put_row(out: &mut Vec<u8>, stamped: bool, row: &Row) -> Result<(), AllocError>
+    requires { IsRow stamped row.now }
+    ensures { OnOk result (out.new.items ≡ out.old.items ++ row_spelling stamped row.now) }
+{
+    put_name(out, &row.name)?;
+    put_attr(out, stamped, &row.attr)
+}
+
+fn put_each(out: &mut Vec<u8>, stamped: bool, rows: &[Row]) -> Result<(), AllocError>
+    requires { AllByRecursion (IsRow stamped) rows.now }
+    ensures { OnOk result (out.new.items ≡ out.old.items ++ flat_map (row_spelling stamped) rows.now) }
+{
+    for row in rows {
+        put_row(out, stamped, row)?;
+    }
+    Ok(())
+}
+
+// How many rows there are, and each of them.
+fn put_rows(out: &mut Vec<u8>, stamped: bool, rows: &[Row]) -> Result<(), AllocError>
+    requires few { length rows.now < 2 ^ 32 }
+    requires each { AllByRecursion (IsRow stamped) rows.now }
+    ensures { OnOk result (out.new.items ≡ out.old.items ++ rows_spelling stamped rows.now) }
+{
+    put_u32(out, rows.len() as u32)?;
+    put_each(out, stamped, rows)
+}
+
+// A call that adds rows.
+fn put_load(out: &mut Vec<u8>, dir: u64, rows: &[Row]) -> Result<(), AllocError>
+    requires few { length rows.now < 2 ^ 32 }
+    requires each { AllByRecursion (IsRow false) rows.now }
+    ensures { OnOk result (out.new.items ≡ out.old.items ++ CALL_LOAD ∷ (to_be_bytes w64 dir ++ rows_spelling false rows.now)) }
+{
+    out.push(CALL_LOAD)?;
+    put_u64(out, dir)?;
+    put_rows(out, false, rows)
+}
+
 fn put_call(out: &mut Vec<u8>, call: &Call) -> Result<(), AllocError>
     requires { IsChange call.now }
     ensures { OnOk result (out.new.items ≡ out.old.items ++ call_spelling call.now) }
@@ -142,7 +211,7 @@ fn put_call(out: &mut Vec<u8>, call: &Call) -> Result<(), AllocError>
         } => put_set(out, *dir, name, *mode as u16, *size, stamp),
         Call::Lookup { .. } => Ok(()),
         Call::Scan { .. } => Ok(()),
-        Call::Load { .. } => Ok(()),
+        Call::Load { dir, rows } => put_load(out, *dir, rows.rows()),
     }
 }
 

@@ -4,7 +4,8 @@ use Rattle.std.proofs.lemmas.Result.{on_ok_weaker}
 use Rattle.mds_base.specs.declared.attr.Stamp.{Stamp}
 use Rattle.mds_base.specs.declared.call.Call.TheVariants.{Setattr}
 use Rattle.records.specs.declared.kinds.TheConstants.{CALL_STAMP}
-use Rattle.records.specs.Spelling.{name_spelling, call_spelling}
+use Rattle.records.specs.Rows.{name_spelling}
+use Rattle.records.specs.Spelling.{call_spelling}
 use Rattle.records.proofs.writing.put_set.Goals as goal
 
 -- the parts of a call with a stamp, one after another, are its spelling
