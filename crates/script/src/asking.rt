@@ -6,14 +6,8 @@ ghost use Rattle.script.specs.Reading.{stamp_here, stamp_at, setattr_after, call
 use crate::fault::LineFault;
 use crate::pieces::{client, directory, is_end, number, number_within, place, word};
 use crate::verb::{CallVerb, call_verb_of};
-use mds_base::{Call, Name, Setup, Stamp};
+use mds_base::{Call, MODE_MOST, Name, Setup, Stamp};
 use std::alloc::Global;
-
-/// The most that a mode may be.
-const LAST_MODE: u64 = 4095;
-
-/// The most that an owner's number may be.
-const LAST_OWNER: u64 = (1 << 32) - 1;
 
 /// A client and the call that it is to make.
 #[tactic(auto, unfolding(crate::specs::Reading::asked_at))]
@@ -78,7 +72,7 @@ fn call_after(alloc: Global, verb: CallVerb, bytes: &[u8]) -> Result<(Call, &[u8
 fn setattr_after(dir: u64, name: Name, bytes: &[u8]) -> Result<(Call, &[u8]), LineFault>
     ensures { Gives (λ x. (x.0, x.1.now)) result (setattr_after dir name bytes.now) }
 {
-    let (mode, rest) = number_within(bytes, 0, LAST_MODE)?;
+    let (mode, rest) = number_within(bytes, 0, u64::from(MODE_MOST))?;
     let (size, rest) = number(rest)?;
     let (stamp, rest) = stamp(rest)?;
     let mode = mode as u32;
@@ -102,7 +96,7 @@ fn stamp(bytes: &[u8]) -> Result<(Option<Stamp>, &[u8]), LineFault>
     if is_end(bytes) {
         return Ok((None, bytes));
     }
-    let (owner, rest) = number_within(bytes, 0, LAST_OWNER)?;
+    let (owner, rest) = number_within(bytes, 0, u64::from(u32::MAX))?;
     let (mtime, rest) = number(rest)?;
     let owner = owner as u32;
     Ok((Some(Stamp { owner, mtime }), rest))

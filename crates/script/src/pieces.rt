@@ -9,11 +9,8 @@ use crate::escape::name_of;
 use crate::fault::LineFault;
 use crate::number::number_of;
 use crate::words::{first_word, whole_rest};
-use mds_base::{Name, Setup};
+use mds_base::{Name, Setup, is_directory_number};
 use std::alloc::Global;
-
-/// The most that a directory's number may be.
-const LAST_DIRECTORY: u64 = (1 << 48) - 1;
 
 /// A directory and a name in it.
 #[tactic(auto, unfolding(crate::specs::Reading::place_at))]
@@ -26,10 +23,16 @@ pub(crate) fn place(alloc: Global, bytes: &[u8]) -> Result<(u64, Name, &[u8]), L
 }
 
 /// The number of a directory.
+#[tactic(auto, unfolding(crate::specs::Reading::directory_at))]
 pub(crate) fn directory(bytes: &[u8]) -> Result<(u64, &[u8]), LineFault>
     ensures { Gives (λ x. (x.0, x.1.now)) result (directory_at bytes.now) }
 {
-    number_within(bytes, 1, LAST_DIRECTORY)
+    let (number, rest) = number(bytes)?;
+    if is_directory_number(number) {
+        Ok((number, rest))
+    } else {
+        Err(LineFault::NotALine)
+    }
 }
 
 #[tactic(auto, unfolding(crate::specs::Reading::name_at))]

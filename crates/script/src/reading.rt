@@ -1,6 +1,7 @@
 //! Reads a line, word by word.
 ghost use Rattle.std.specs.Prelude.{◌≡◌, ◌↔◌, ℕ, List, IfOk, IsErrOf, MatchBool};
 ghost use Rattle.std.specs.Str.Parse.{digits_value};
+ghost use Rattle.mds_base.specs.declared.limits.TheConstants.{BATCH_MOST};
 ghost use Rattle.mds_base.specs.declared.setup.Setup.{Setup};
 ghost use Rattle.script.specs.declared.line.Line.{Line};
 ghost use Rattle.script.specs.Grammar.{IsSpelled, Number, IsNumeral, IsComment, IsLine, IsWithin};
@@ -14,17 +15,9 @@ use crate::line::Line;
 use crate::pieces::{client, is_end, number, number_within, place, raw_rest, raw_word, server};
 use crate::verb::{Verb, verb_of};
 use crate::words::first_word;
+use mds_base::limits::{BATCH_MOST, FUSE_MOST, TICK_MOST};
 use mds_base::{PlaceList, Setup};
 use std::alloc::Global;
-
-/// The most moments that pass at once.
-const MOST_MOMENTS: u64 = 1 << 32;
-
-/// The most calls that a fuse lets pass.
-const MOST_CALLS: u64 = 1 << 32;
-
-/// The most places that are served together.
-const MOST_PLACES: u32 = 64;
 
 /// Reads bytes, a line without its end, as what the line says. They are refused as `NotALine` exactly where they are
 /// outside the grammar (`docs/FORMATS.md`, "Lines of a script"), and as `OutOfMemory` where there is no memory for
@@ -151,7 +144,7 @@ fn take_line<'a>(bytes: &'a [u8], setup: &Setup) -> Result<(Line, &'a [u8]), Lin
 fn tick_line(bytes: &[u8]) -> Result<(Line, &[u8]), LineFault>
     ensures { Gives (λ x. (x.0, x.1.now)) result (tick_line bytes.now) }
 {
-    let (by, rest) = number_within(bytes, 1, MOST_MOMENTS)?;
+    let (by, rest) = number_within(bytes, 1, TICK_MOST)?;
     Ok((Line::Tick { by }, rest))
 }
 
@@ -160,7 +153,7 @@ fn fuse_line<'a>(bytes: &'a [u8], setup: &Setup) -> Result<(Line, &'a [u8]), Lin
     ensures { Gives (λ x. (x.0, x.1.now)) result (fuse_line setup.now bytes.now) }
 {
     let (server, rest) = server(bytes, setup)?;
-    let (calls, rest) = number_within(rest, 0, MOST_CALLS)?;
+    let (calls, rest) = number_within(rest, 0, FUSE_MOST)?;
     Ok((Line::Fuse { server, calls }, rest))
 }
 
@@ -204,13 +197,13 @@ fn batch_line<'a>(
     Ok((Line::Batch { server, places }, rest))
 }
 
-/// As many places as there are, but at most `MOST_PLACES`.
+/// As many places as there are, but at most `BATCH_MOST`.
 fn places(alloc: Global, bytes: &[u8]) -> Result<(PlaceList, &[u8]), LineFault>
-    ensures { Gives (λ x. (x.0, x.1.now)) result (numbers_at 64 bytes.now) }
+    ensures { Gives (λ x. (x.0, x.1.now)) result (numbers_at BATCH_MOST bytes.now) }
 {
     let mut places = PlaceList::new(alloc);
     let mut rest = bytes;
-    let mut most = MOST_PLACES;
+    let mut most = BATCH_MOST;
     while most > 0 && !is_end(rest) {
         let (place, after) = number(rest)?;
         places.push(place)?;
