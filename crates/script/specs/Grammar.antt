@@ -1,5 +1,6 @@
 -- The lines of a script: which bytes say which line. It knows no reader.
 use Rattle.std.specs.Prelude.{◌≡◌, ◌⊎◌, ℕ, ◌<◌, ◌≤◌, ◌^◌, List, [], ◌∷◌, Option, Some, None, MatchOption, Bool, true, false, codes, decimal, IsTrue, length, slice_index}
+use Rattle.std.specs.List.{list_any}
 use Rattle.std.specs.Str.Parse.{AllDigits, digits_value}
 use Rattle.mds_base.specs.declared.limits.TheConstants.{BATCH_MOST, TICK_MOST, FUSE_MOST}
 use Rattle.mds_base.specs.declared.call.Call.{Call}
@@ -95,6 +96,17 @@ line_parts (lines.Bulk client dir name json) = Keyword (codes "bulk") ∷ Number
 line_parts (lines.Rmdir client dir name) = Keyword (codes "rmdir") ∷ Number client ∷ Number dir ∷ Named name ∷ []
 line_parts (lines.Feed server) = Keyword (codes "feed") ∷ Number server ∷ []
 line_parts (lines.Promote server) = Keyword (codes "promote") ∷ Number server ∷ []
+
+-- a name, a word or a rest, whose bytes are kept
+abbrev pub is_kept : Part → Bool
+is_kept (Keyword text) = false
+is_kept (Number number) = false
+is_kept part = true
+
+-- whether a line keeps bytes or places, for which it wants memory
+abbrev pub keeps : Line → Bool
+keeps (lines.Batch server places) = true
+keeps line = list_any is_kept (line_parts line)
 
 -- a word that is a number, digit by digit; its value is `digits_value 10 word`
 pub record IsNumeral (word : List ℕ) : Type 0 where

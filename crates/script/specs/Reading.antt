@@ -1,5 +1,5 @@
 -- Reading from left to right: what the first bytes of bytes say and the bytes behind them, where they say it.
-use Rattle.std.specs.Prelude.{ℕ, zero, suc, length, is_some, not, ◌+◌, ◌*◌, ◌-◌, ◌^◌, List, [], ◌∷◌, Option, Some, None, Bool, nat_le, nat_lt, nat_eq, ◌==◌, ◌&&◌, if◌then◌else◌, codes, decimal}
+use Rattle.std.specs.Prelude.{ℕ, zero, suc, length, is_some, not, ◌+◌, ◌*◌, ◌-◌, ◌^◌, List, [], ◌∷◌, Option, Some, None, Bool, true, false, nat_le, nat_lt, nat_eq, ◌==◌, ◌&&◌, if◌then◌else◌, codes, decimal}
 use Rattle.std.specs.List.{find}
 use Rattle.std.specs.Cmp.Lexicographic.{pointwise}
 use Rattle.std.specs.Char.{digit_value}
@@ -88,6 +88,11 @@ each_verb = verbs.Call ∷ verbs.Issue ∷ verbs.Retry ∷ verbs.Deliver ∷ ver
 
 abbrev pub each_call_verb : List CallVerb
 each_call_verb = asked.Create ∷ asked.Mkdir ∷ asked.Remove ∷ asked.Lookup ∷ asked.Setattr ∷ asked.Scan ∷ []
+
+-- whether a call of this verb has a name
+abbrev pub is_named : CallVerb → Bool
+is_named asked.Scan = false
+is_named verb = true
 
 unfoldable pub verb_of : List ℕ → Option Verb
 verb_of word = find (λ verb. pointwise nat_eq (verb_text verb) word) each_verb
