@@ -3,7 +3,7 @@ use Rattle.std.proofs.Common.{◌≡◌, ◌∙◌, sym, ap, ℕ, ◌-◌, ◌<�
 use Rattle.std.specs.Result.{IsErrAnd}
 use Rattle.std.proofs.lemmas.List.{append-nil}
 use Rattle.script.specs.declared.fault.LineFault.{LineFault}
-use Rattle.script.specs.declared.fault.LineFault.TheVariants.{NotALine, OutOfMemory}
+use Rattle.script.specs.declared.fault.LineFault.TheVariants.{NotALine}
 use Rattle.script.specs.Answers.{Gives}
 use Rattle.script.specs.Reading.{◌>>=◌, is_end, number_at, numbers_at}
 

@@ -1,6 +1,6 @@
 -- Which calls and lines keep bytes: where memory ran out, what was to be read keeps some.
-use Rattle.std.proofs.Common.{◌≡◌, ◌∙◌, sym, ap, subst, refl, ℕ, List, Bool, true, false, cond, length, nat_le, Option, Some, None, Result, Ok, Err}
-use Rattle.std.specs.Prelude.{IfSome, IsTrue, IsErrAnd}
+use Rattle.std.proofs.Common.{◌≡◌, sym, subst, refl, ℕ, List, Bool, true, false, cond, length, nat_le, Option, Some, None, Result, Ok, Err}
+use Rattle.std.specs.Prelude.{IfSome, IsTrue}
 use Rattle.std.specs.List.{list_any}
 use Rattle.std.proofs.lemmas.Bool.{true≢false}
 use Rattle.mds_base.specs.declared.limits.TheConstants.{MODE_MOST, BATCH_MOST}
@@ -18,7 +18,7 @@ use Rattle.script.specs.declared.verb.CallVerb.TheVariants as asked
 use Rattle.script.specs.Answers.{OnMemory}
 use Rattle.script.specs.Grammar.{is_kept, call_parts, keeps}
 use Rattle.script.specs.Words.{word_at, rest_at}
-use Rattle.script.specs.Reading.{◌>>=◌, is_named, call_verb_of, verb_of, is_end, number_at, number_within, server_at, client_at, place_at, stamp_at, setattr_after, call_after, call_at, asked_at, numbers_at, call_line, issue_line, batch_line, walk_line, bulk_line, rmdir_line, line_after, line_from, line_of}
+use Rattle.script.specs.Reading.{◌>>=◌, is_named, call_verb_of, number_at, number_within, server_at, client_at, place_at, stamp_at, setattr_after, call_after, call_at, numbers_at, batch_line, walk_line, bulk_line, rmdir_line, line_after}
 
 -- what comes of a step, whatever it found
 then_all : {A B : Type 0} (found : Option A) (next : A → Option B) (P : B → Type 0) → ((value : A) → IfSome (next value) P) → IfSome (found >>= next) P

@@ -20,7 +20,7 @@ use Rattle.script.specs.declared.verb.Verb.TheVariants as verbs
 use Rattle.script.specs.declared.verb.CallVerb.{CallVerb}
 use Rattle.script.specs.declared.verb.CallVerb.TheVariants as asked
 use Rattle.script.specs.Words.{word_at, rest_at}
-use Rattle.script.specs.Grammar.{Part, Keyword, Number, Named, Raw, Rest, IsSpelled, AreSaid, stamp_parts, call_parts, number_parts, line_parts, IsStamp, has_verb, IsAsked, IsClient, IsServer, IsWithin}
+use Rattle.script.specs.Grammar.{Part, Keyword, Number, Named, Raw, Rest, IsSpelled, AreSaid, stamp_parts, call_parts, number_parts, line_parts, IsStamp, IsAsked, IsClient, IsServer, IsWithin}
 use Rattle.script.specs.Names.{SpellsName}
 use Rattle.script.specs.Reading.{◌>>=◌, number_of, unescaped, checked_name, name_of, verb_text, call_verb_text, each_verb, each_call_verb, verb_of, call_verb_of, is_end, number_at, number_within, server_at, client_at, directory_at, name_at, place_at, stamp_here, stamp_at, setattr_after, call_after, call_at, asked_at, numbers_at, call_line, issue_line, retry_line, deliver_line, batch_line, take_line, remind_line, tick_line, fuse_line, stop_line, restart_line, walk_line, bulk_line, rmdir_line, feed_line, promote_line, line_after, line_from, line_of}
 use Rattle.script.proofs.Numerals.{number_is, number_found}
