@@ -2,12 +2,12 @@
 use Rattle.std.proofs.Common.{◌≡◌, ◌∙◌, sym, ap, refl, ℕ, ◌+◌, ◌/◌, ◌%◌, ◌==◌, List, [], ◌∷◌, ◌++◌, get_or, length, Bool, true, false, not, if◌then◌else◌, nat_le, nat_lt, map, filter, codes, decimal, arith}
 use Rattle.std.specs.Prelude.{◌&&◌}
 use Rattle.std.specs.Fmt.{digit_glyph}
-use Rattle.std.specs.List.{flat_map}
+use Rattle.std.specs.List.{flat_map, list_all}
 use Rattle.std.proofs.lemmas.Bool.{and_parts, and_from, leb-true, ne_eqb}
-use Rattle.mds_base.specs.declared.call.Call.{Call}
-use Rattle.mds_base.specs.declared.call.Call.TheVariants.{Create, Mkdir, Remove, Lookup, Setattr, Scan, Grab, Load, Link, Seal, Unseal, Kill, Unlink}
 use Rattle.mds_base.specs.declared.entry.Entry.{Entry}
-use Rattle.script.specs.Text.{is_plain_byte, byte_text, name_text}
+use Rattle.script.specs.Grammar.{Part, Keyword, Number, Named, Raw, Rest, call_parts}
+use Rattle.script.specs.Text.{is_plain_byte, byte_text, name_text, part_text, parts_text, call_text, is_word}
+use Rattle.script.proofs.Printing.{is_simple, call_simple}
 use Rattle.simulation.specs.declared.made.Made.{Made}
 use Rattle.mds_out.specs.Disk.{Image, Contents}
 use Rattle.simulation.specs.Runs.{RunV}
@@ -16,8 +16,8 @@ use Rattle.world.specs.Histories as past
 use Rattle.world.specs.Histories.{MadeV, AnsweredV, stands, stands_as, is_taken, entries_of}
 use Rattle.interpreter.specs.EventText.{effects_text}
 use Rattle.interpreter.specs.Payments.{IsPrinted, TellsNoStop, has_no_feed, times, stopped_line}
-use Rattle.interpreter.specs.Text.{call_text, stamp_text, place_text, reply_text, effect_line, effect_of, effects_of}
-use Rattle.interpreter.proofs.Paying.{clean_append, decimal_clean, stamp_clean, reply_clean, other_times}
+use Rattle.interpreter.specs.Text.{reply_text, effect_line, effect_of, effects_of}
+use Rattle.interpreter.proofs.Paying.{clean_append, decimal_clean, reply_clean, other_times}
 
 module _ {X : Type 0} (seen : X → Contents) (images : X → Image → Type 0) (sim : SimulationV X) (run : RunV) (shows : Shows seen images sim run) where
   kind_same : (kind : past.Kind) → kind_stands sim.taken (kind_of kind) ≡ stands_as run.trace.past.answered kind
@@ -43,14 +43,17 @@ glyph_clean : (b : Bool) (d : ℕ) → not ((if b then 48 + d else (55 + d)) == 
 glyph_clean true d = ap not (ne_eqb (48 + d) 10 (λ e. omega (arith, e)))
 glyph_clean false d = ap not (ne_eqb (55 + d) 10 (λ e. omega (arith, e)))
 
+plain_clean : (byte : ℕ) → is_plain_byte byte ≡ true → not (byte == 10) ≡ true
+plain_clean byte plain =
+    let range = and_parts (nat_le 33 byte) (nat_le byte 126) (and_parts (nat_le 33 byte && nat_le byte 126) (not (byte == 37)) plain).0 in
+    let least = leb-true 33 byte range.0 in
+    ap not (ne_eqb byte 10 (λ e. omega (arith, e, least)))
+
 byte_clean : (byte : ℕ) → has_no_feed (byte_text byte) ≡ true
 byte_clean byte = by (is_plain_byte byte) refl
   where
     by : (b : Bool) → is_plain_byte byte ≡ b → has_no_feed (if b then byte ∷ [] else 37 ∷ digit_glyph true (byte / 16) ∷ digit_glyph true (byte % 16) ∷ []) ≡ true
-    by true plain =
-        let range = and_parts (nat_le 33 byte) (nat_le byte 126) (and_parts (nat_le 33 byte && nat_le byte 126) (not (byte == 37)) plain).0 in
-        let least = leb-true 33 byte range.0 in
-        and_from (not (byte == 10)) true (ap not (ne_eqb byte 10 (λ e. omega (arith, e, least)))) refl
+    by true plain = and_from (not (byte == 10)) true (plain_clean byte plain) refl
     by false plain =
         and_from (not (digit_glyph true (byte / 16) == 10)) (not (digit_glyph true (byte % 16) == 10) && true) (glyph_clean (nat_lt (byte / 16) 10) (byte / 16))
         (and_from (not (digit_glyph true (byte % 16) == 10)) true (glyph_clean (nat_lt (byte % 16) 10) (byte % 16)) refl)
@@ -59,33 +62,29 @@ name_clean : (name : List ℕ) → has_no_feed (name_text name) ≡ true
 name_clean [] = refl
 name_clean (byte ∷ name) = clean_append (byte_text byte) (name_text name) (byte_clean byte) (name_clean name)
 
-place_clean : (verb : List ℕ) (dir : ℕ) (name : List ℕ) → has_no_feed verb ≡ true → has_no_feed (place_text verb dir name) ≡ true
-place_clean verb dir name clean =
-    clean_append (verb ++ codes " " ++ decimal dir ++ codes " ") (name_text name)
-    (clean_append (verb ++ codes " " ++ decimal dir) (codes " ") (clean_append (verb ++ codes " ") (decimal dir) (clean_append verb (codes " ") clean refl) (decimal_clean dir)) refl)
-    (name_clean name)
+word_clean : (text : List ℕ) → list_all is_plain_byte text ≡ true → has_no_feed text ≡ true
+word_clean [] plain = refl
+word_clean (byte ∷ text) plain =
+    let both = and_parts (is_plain_byte byte) (list_all is_plain_byte text) plain in
+    and_from (not (byte == 10)) (has_no_feed text) (plain_clean byte both.0) (word_clean text both.1)
+
+part_clean : (part : Part) → is_simple part ≡ true → has_no_feed (part_text part) ≡ true
+part_clean (Keyword text) simple = word_clean text (and_parts (is_word text) (list_all is_plain_byte text) simple).1
+part_clean (Number number) simple = decimal_clean number
+part_clean (Named name) simple = name_clean name
+part_clean (Raw text) simple = absurd cc
+part_clean (Rest text) simple = absurd cc
+
+parts_clean : (parts : List Part) → list_all is_simple parts ≡ true → has_no_feed (parts_text parts) ≡ true
+parts_clean [] simple = refl
+parts_clean (part ∷ []) simple = part_clean part (and_parts (is_simple part) true simple).0
+parts_clean (part ∷ next ∷ parts) simple =
+    let both = and_parts (is_simple part) (list_all is_simple (next ∷ parts)) simple in
+    clean_append (part_text part) (32 ∷ parts_text (next ∷ parts)) (part_clean part both.0) (parts_clean (next ∷ parts) both.1)
 
 -- a number behind other words
 more_clean : (words : List ℕ) (number : ℕ) → has_no_feed words ≡ true → has_no_feed (words ++ codes " " ++ decimal number) ≡ true
 more_clean words number clean = clean_append (words ++ codes " ") (decimal number) (clean_append words (codes " ") clean refl) (decimal_clean number)
-
-call_clean : (call : Call) → has_no_feed (call_text call) ≡ true
-call_clean (Create dir name) = place_clean (codes "create") dir name refl
-call_clean (Mkdir dir name) = place_clean (codes "mkdir") dir name refl
-call_clean (Remove dir name) = place_clean (codes "remove") dir name refl
-call_clean (Lookup dir name) = place_clean (codes "lookup") dir name refl
-call_clean (Setattr dir name mode size stamp) =
-    clean_append (place_text (codes "setattr") dir name ++ codes " " ++ decimal mode ++ codes " " ++ decimal size) (stamp_text stamp)
-    (more_clean (place_text (codes "setattr") dir name ++ codes " " ++ decimal mode) size (more_clean (place_text (codes "setattr") dir name) mode (place_clean (codes "setattr") dir name refl)))
-    (stamp_clean stamp)
-call_clean (Scan dir) = decimal_clean dir
-call_clean (Grab dir name count) = more_clean (place_text (codes "grab") dir name) count (place_clean (codes "grab") dir name refl)
-call_clean (Load dir rows) = more_clean (codes "load " ++ decimal dir) (length rows) (decimal_clean dir)
-call_clean (Link dir name id) = more_clean (place_text (codes "link") dir name) id (place_clean (codes "link") dir name refl)
-call_clean (Seal dir part epoch) = more_clean (codes "seal " ++ decimal dir ++ codes " " ++ decimal part) epoch (more_clean (codes "seal " ++ decimal dir) part (decimal_clean dir))
-call_clean (Unseal dir part epoch) = more_clean (codes "unseal " ++ decimal dir ++ codes " " ++ decimal part) epoch (more_clean (codes "unseal " ++ decimal dir) part (decimal_clean dir))
-call_clean (Kill dir epoch) = more_clean (codes "kill " ++ decimal dir) epoch (decimal_clean dir)
-call_clean (Unlink dir name id) = more_clean (place_text (codes "unlink") dir name) id (place_clean (codes "unlink") dir name refl)
 
 effect_printed : (entry : Entry) → IsPrinted (effect_line entry)
 effect_printed entry =
@@ -95,7 +94,7 @@ effect_printed entry =
     record {
       part = call ++ codes " " ++ reply_text entry.reply;
       none = clean_append (call ++ codes " ") (reply_text entry.reply)
-          (clean_append call (codes " ") (clean_append (seq ++ codes " ") (call_text entry.call) (clean_append seq (codes " ") (more_clean client entry.seq (decimal_clean entry.client)) refl) (call_clean entry.call)) refl)
+          (clean_append call (codes " ") (clean_append (seq ++ codes " ") (call_text entry.call) (clean_append seq (codes " ") (more_clean client entry.seq (decimal_clean entry.client)) refl) (parts_clean (call_parts entry.call) (call_simple entry.call))) refl)
           (reply_clean entry.reply);
       is = refl;
     }

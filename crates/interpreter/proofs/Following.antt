@@ -1,6 +1,7 @@
 -- A client's message is followed, round by round.
 use Rattle.std.proofs.Common.{◌≡◌, ◌∙◌, sym, ap, subst, refl, ℕ, ◌+◌, ◌≤◌, ◌^◌, Bool, true, false, List, [], ◌∷◌, ◌++◌, length, Some, None, inl, inr, arith}
 use Rattle.std.specs.List.{slice_get}
+use Rattle.mds_base.specs.declared.limits.TheConstants.{EVENTS}
 use Rattle.mds_base.specs.declared.setup.Which.TheVariants as limits
 use Rattle.mds_out.specs.Disk.{Image, Contents}
 use Rattle.simulation.specs.Calls.{IsRequestAt}
@@ -192,7 +193,7 @@ module _ {X : Type 0} (seen : X → Contents) (images : X → Image → Type 0) 
   some_delivery w place server true is up = (Serve server (place ∷ []) ends.Done, record { server = server; is = is; how = subst (λ b. IsDeliveredAt place server b (Serve server (place ∷ []) ends.Done)) (sym up) (inl refl) })
   some_delivery w place server false is up = (Miss place, record { server = server; is = is; how = subst (λ b. IsDeliveredAt place server b (Miss place)) (sym up) refl })
 
-  pub follows_full : (old sim : SimulationV X) (was now : List ℕ) (client place next rounds : ℕ) → 2 ^ 20 ≤ rounds → Follows old sim was now client place next rounds → Halts seen images old sim was now (λ run. IsFollowing run client place) (halts.Limit limits.Events)
+  pub follows_full : (old sim : SimulationV X) (was now : List ℕ) (client place next rounds : ℕ) → EVENTS ≤ rounds → Follows old sim was now client place next rounds → Halts seen images old sim was now (λ run. IsFollowing run client place) (halts.Limit limits.Events)
   follows_full old sim was now client place next rounds enough f run shows =
       let s = f.so_far run shows in
       let d = some_delivery (grown_by run s.events).trace.world next f.request.server _ (ap server_for (sym (seen_msg seen images sim (grown_by run s.events) s.goes.shows next)) ∙ f.request.is) refl in

@@ -4,6 +4,7 @@ use Rattle.std.specs.Prelude.{OnOk, IfErr, nat_lt, codes}
 use Rattle.std.specs.List.{slice_get}
 use Rattle.std.proofs.lemmas.Bool.Decides.{nat_tests}
 use Rattle.std.proofs.lemmas.List.{append-nil}
+use Rattle.mds_base.specs.declared.limits.TheConstants.{EVENTS, MOMENTS}
 use Rattle.mds_base.specs.declared.setup.Which.{Which}
 use Rattle.mds_base.specs.declared.setup.Which.TheVariants as limits
 use Rattle.mds_base.specs.declared.store_fault.StoreFault.{StoreFault}
@@ -90,13 +91,13 @@ module _ {X : Type 0} (seen : X → Contents) (images : X → Image → Type 0) 
       halts_limit seen images sim pending pending run (OrNone P run) which next.next shows refl (inl refl) (inr next.are) next.passes
 
   -- the limit of events, where each run that is shown has some event that comes next
-  pub full : (sim : SimulationV X) (pending : List ℕ) (P : RunV → List Event → Type 0) (halt : Halt) → (halt ≡ halts.Limit limits.Events) × (2 ^ 20 ≤ sim.count) → ((run : RunV) → Shows seen images sim run → (event : Event) × P run (event ∷ []))
+  pub full : (sim : SimulationV X) (pending : List ℕ) (P : RunV → List Event → Type 0) (halt : Halt) → (halt ≡ halts.Limit limits.Events) × (EVENTS ≤ sim.count) → ((run : RunV) → Shows seen images sim run → (event : Event) × P run (event ∷ []))
       → Halts seen images sim sim pending pending (OrNone P) halt
   full sim pending P halt is next =
       subst (Halts seen images sim sim pending pending (OrNone P)) (sym is.0)
-      (limited sim pending P limits.Events (λ run shows. record { next = (next run shows).0; are = (next run shows).1; passes = subst (λ n. 2 ^ 20 ≤ n) (sym shows.count) is.1 }))
+      (limited sim pending P limits.Events (λ run shows. record { next = (next run shows).0; are = (next run shows).1; passes = subst (λ n. EVENTS ≤ n) (sym shows.count) is.1 }))
 
-  pub full_event : (sim : SimulationV X) (pending : List ℕ) (event : Event) (halt : Halt) → (halt ≡ halts.Limit limits.Events) × (2 ^ 20 ≤ sim.count) → Halts seen images sim sim pending pending (OrNone (IsEvent event)) halt
+  pub full_event : (sim : SimulationV X) (pending : List ℕ) (event : Event) (halt : Halt) → (halt ≡ halts.Limit limits.Events) × (EVENTS ≤ sim.count) → Halts seen images sim sim pending pending (OrNone (IsEvent event)) halt
   full_event sim pending event halt is = full sim pending (IsEvent event) halt is (λ run shows. (event, refl))
 
   -- ---- what events happened
@@ -176,11 +177,11 @@ module _ {X : Type 0} (seen : X → Contents) (images : X → Image → Type 0) 
 
   -- the limits of a delivery
 
-  pub full_serve : (sim : SimulationV X) (pending : List ℕ) (server place : ℕ) (halt : Halt) → server_for (slice_get sim.sent place) ≡ Some server → shown.is_up sim server ≡ true → (halt ≡ halts.Limit limits.Events) × (2 ^ 20 ≤ sim.count)
+  pub full_serve : (sim : SimulationV X) (pending : List ℕ) (server place : ℕ) (halt : Halt) → server_for (slice_get sim.sent place) ≡ Some server → shown.is_up sim server ≡ true → (halt ≡ halts.Limit limits.Events) × (EVENTS ≤ sim.count)
       → Halts seen images sim sim pending pending (OrNone (λ run. IsDelivery run place)) halt
   full_serve sim pending server place halt for up is = full sim pending (λ run. IsDelivery run place) halt is (λ run shows. next_serve sim sim server place run shows for up)
 
-  pub full_miss : (sim : SimulationV X) (pending : List ℕ) (server place : ℕ) (halt : Halt) → server_for (slice_get sim.sent place) ≡ Some server → (shown.is_up sim server ≡ true → ⊥) → (halt ≡ halts.Limit limits.Events) × (2 ^ 20 ≤ sim.count)
+  pub full_miss : (sim : SimulationV X) (pending : List ℕ) (server place : ℕ) (halt : Halt) → server_for (slice_get sim.sent place) ≡ Some server → (shown.is_up sim server ≡ true → ⊥) → (halt ≡ halts.Limit limits.Events) × (EVENTS ≤ sim.count)
       → Halts seen images sim sim pending pending (OrNone (λ run. IsDelivery run place)) halt
   full_miss sim pending server place halt for down is = full sim pending (λ run. IsDelivery run place) halt is (λ run shows. next_miss sim sim server place run shows for (is_false (shown.is_up sim server) down))
 
@@ -190,8 +191,8 @@ module _ {X : Type 0} (seen : X → Contents) (images : X → Image → Type 0) 
 
   -- the limit of the moment
 
-  pub full_moment : (sim : SimulationV X) (pending : List ℕ) (by : ℕ) → 2 ^ 43 ≤ sim.moment + by → Halts seen images sim sim pending pending (OrNone (IsEvent (Tick by))) (halts.Limit limits.Moment)
-  full_moment sim pending by past = limited sim pending (IsEvent (Tick by)) limits.Moment (λ run shows. record { next = Tick by; are = refl; passes = subst (λ n. 2 ^ 43 ≤ n + by) (sym shows.moment) past })
+  pub full_moment : (sim : SimulationV X) (pending : List ℕ) (by : ℕ) → MOMENTS ≤ sim.moment + by → Halts seen images sim sim pending pending (OrNone (IsEvent (Tick by))) (halts.Limit limits.Moment)
+  full_moment sim pending by past = limited sim pending (IsEvent (Tick by)) limits.Moment (λ run shows. record { next = Tick by; are = refl; passes = subst (λ n. MOMENTS ≤ n + by) (sym shows.moment) past })
 
   -- a restart
 
@@ -201,7 +202,7 @@ module _ {X : Type 0} (seen : X → Contents) (images : X → Image → Type 0) 
   pub unrestarted_does : (old new : SimulationV X) (server : ℕ) → Restarts seen images old new server restarts.Stopped → Does seen images old new (λ run. IsRestarted server) (server_line (codes "stopped ") server)
   unrestarted_does old new server r run shows = record { event = Stop server Device; are = inr refl; goes = r run shows; prints = refl }
 
-  pub full_restart : (sim : SimulationV X) (pending : List ℕ) (server : ℕ) (halt : Halt) → (halt ≡ halts.Limit limits.Events) × (2 ^ 20 ≤ sim.count) → Halts seen images sim sim pending pending (OrNone (λ run. IsRestarted server)) halt
+  pub full_restart : (sim : SimulationV X) (pending : List ℕ) (server : ℕ) (halt : Halt) → (halt ≡ halts.Limit limits.Events) × (EVENTS ≤ sim.count) → Halts seen images sim sim pending pending (OrNone (λ run. IsRestarted server)) halt
   full_restart sim pending server halt is = full sim pending (λ run. IsRestarted server) halt is (λ run shows. (Restart server 0, inl (0, refl)))
 
   -- a fault of a restart is want of memory, where a run is shown

@@ -7,4 +7,3 @@ pub mod Redirecting
 pub mod Settling
 pub mod Sights
 pub mod Stepping
-pub mod Plain

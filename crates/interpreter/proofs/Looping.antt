@@ -1,6 +1,7 @@
 -- Rounds of events, one after another.
 use Rattle.std.proofs.Common.{◌≡◌, ◌∙◌, sym, subst, refl, ℕ, ◌+◌, ◌<◌, ◌≤◌, ◌^◌, List, [], ◌∷◌, ◌++◌, length, append_assoc, arith}
 use Rattle.std.proofs.lemmas.List.{length-append}
+use Rattle.mds_base.specs.declared.limits.TheConstants.{EVENTS}
 use Rattle.mds_base.specs.declared.setup.Which.TheVariants as limits
 use Rattle.mds_out.specs.Disk.{Image, Contents}
 use Rattle.simulation.specs.Runs.{RunV}
@@ -57,22 +58,22 @@ module _ {X : Type 0} (seen : X → Contents) (images : X → Image → Type 0) 
   so_far_halts mid new was at now run k Ends Begins Ends' Begins' halt s h =
       halts_behind seen images mid new was at now run s.events (Begins' (grown_by run s.events)) Begins halt s.goes s.begins h
 
-  many : (k a b : ℕ) → 2 ^ 20 ≤ k → k ≤ b → 2 ^ 20 ≤ a + b
+  many : (k a b : ℕ) → EVENTS ≤ k → k ≤ b → EVENTS ≤ a + b
   many k a b e f = omega arith
 
   -- after as many rounds as a run has events, where some event would come next
-  pub so_far_full : (sim : SimulationV X) (was now : List ℕ) (run : RunV) (k : ℕ) (Ends Begins : List Event → Type 0) (Ends' Begins' : RunV → List Event → Type 0) → 2 ^ 20 ≤ k
+  pub so_far_full : (sim : SimulationV X) (was now : List ℕ) (run : RunV) (k : ℕ) (Ends Begins : List Event → Type 0) (Ends' Begins' : RunV → List Event → Type 0) → EVENTS ≤ k
       → (s : SoFar seen images sim was now run k Ends Begins Ends' Begins') → Begins' (grown_by run s.events) [] → (next : Event) → Begins' (grown_by run s.events) (next ∷ []) → HaltsBy seen images sim was now run Begins (halts.Limit limits.Events)
   so_far_full sim was now run k Ends Begins Ends' Begins' enough s none next comes =
       so_far_halts sim sim was now now run k Ends Begins Ends' Begins' (halts.Limit limits.Events) s
       (halts_limit seen images sim now now (grown_by run s.events) (Begins' (grown_by run s.events)) limits.Events next s.goes.shows refl none comes
-      (subst (λ n. 2 ^ 20 ≤ n) (sym (grown_length run s.events)) (many k (length run.events) (length s.events) enough s.long)))
+      (subst (λ n. EVENTS ≤ n) (sym (grown_length run s.events)) (many k (length run.events) (length s.events) enough s.long)))
 
-  crowded : (k a b c : ℕ) → 2 ^ 20 < k → k ≤ b → a + b ≡ c → c ≤ 2 ^ 20 → ⊥
+  crowded : (k a b c : ℕ) → EVENTS < k → k ≤ b → a + b ≡ c → c ≤ EVENTS → ⊥
   crowded k a b c e f g h = omega arith
 
   -- a run has no more events than it may have
-  pub so_far_crowded : (sim : SimulationV X) (was now : List ℕ) (run : RunV) (k : ℕ) (Ends Begins : List Event → Type 0) (Ends' Begins' : RunV → List Event → Type 0) → 2 ^ 20 < k → sim.count ≤ 2 ^ 20
+  pub so_far_crowded : (sim : SimulationV X) (was now : List ℕ) (run : RunV) (k : ℕ) (Ends Begins : List Event → Type 0) (Ends' Begins' : RunV → List Event → Type 0) → EVENTS < k → sim.count ≤ EVENTS
       → SoFar seen images sim was now run k Ends Begins Ends' Begins' → ⊥
   so_far_crowded sim was now run k Ends Begins Ends' Begins' enough few s =
       crowded k (length run.events) (length s.events) sim.count enough s.long (sym (grown_length run s.events) ∙ s.goes.shows.count) few

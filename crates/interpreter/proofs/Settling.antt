@@ -1,6 +1,7 @@
 -- What waits is delivered, the first message first, until nothing is due.
 use Rattle.std.proofs.Common.{◌≡◌, ◌∙◌, sym, ap, subst, refl, ℕ, ◌+◌, ◌<◌, ◌≤◌, ◌^◌, Bool, true, false, ◌&&◌, is_some, List, [], ◌++◌, length, Option, Some, None, inl, inr, arith}
 use Rattle.std.specs.List.{slice_get}
+use Rattle.mds_base.specs.declared.limits.TheConstants.{EVENTS}
 use Rattle.mds_base.specs.declared.setup.Which.TheVariants as limits
 use Rattle.mds_out.specs.Disk.{Image, Contents}
 use Rattle.simulation.specs.Runs.{RunV}
@@ -56,7 +57,7 @@ module _ {X : Type 0} (seen : X → Contents) (images : X → Image → Type 0) 
   pub record Settles (old new : SimulationV X) (was now : List ℕ) (rounds : ℕ) : Type 0 where
     pub setup : new.setup ≡ old.setup
     pub so_far : (run : RunV) → Shows seen images old run → SoFar seen images new was now run rounds (IsSettled run) (IsSettling run) IsSettled IsSettling
-    pub few : (run : RunV) → Shows seen images old run → 1 ≤ rounds → new.count ≤ 2 ^ 20
+    pub few : (run : RunV) → Shows seen images old run → 1 ≤ rounds → new.count ≤ EVENTS
 
   pub settles_none : (sim : SimulationV X) (pending : List ℕ) → Settles sim sim pending pending 0
   settles_none sim pending = record {
@@ -65,11 +66,11 @@ module _ {X : Type 0} (seen : X → Contents) (images : X → Image → Type 0) 
     few = λ run shows some. absurd (omega arith);
   }
 
-  one_more : (a b c m n : ℕ) → a ≡ m → b ≡ a + c → c ≡ 1 → b ≡ n → m < 2 ^ 20 → n ≤ 2 ^ 20
+  one_more : (a b c m n : ℕ) → a ≡ m → b ≡ a + c → c ≡ 1 → b ≡ n → m < EVENTS → n ≤ EVENTS
   one_more a b c m n e f g h few = omega arith
 
   pub settles_more : (old mid new : SimulationV X) (was at now : List ℕ) (rounds place : ℕ) (first : Option ℕ) → Settles old mid was at rounds → new.setup ≡ mid.setup → length mid.stores ≡ mid.setup.servers → IsFirst (IsDue mid mid.setup.servers) (Some place)
-      → (is_some (server_for (slice_get mid.sent place)) ≡ true → Carries seen images mid new at now (IsDeliveredTo place first)) → (is_some (server_for (slice_get mid.sent place)) ≡ true → mid.count < 2 ^ 20)
+      → (is_some (server_for (slice_get mid.sent place)) ≡ true → Carries seen images mid new at now (IsDeliveredTo place first)) → (is_some (server_for (slice_get mid.sent place)) ≡ true → mid.count < EVENTS)
       → Settles old new was now (rounds + 1)
   settles_more old mid new was at now rounds place first s setup stores due carries few = record {
     setup = setup ∙ s.setup;
@@ -113,6 +114,6 @@ module _ {X : Type 0} (seen : X → Contents) (images : X → Image → Type 0) 
       (halts_kind seen images new at now (grown_by run f.events) (OrNone (λ r. IsDelivery r place) (grown_by run f.events)) (IsSettling (grown_by run f.events)) halt
       (λ es is. settling_delivery (grown_by run f.events) place es there is) (h (grown_by run f.events) f.goes.shows))
 
-  pub settles_full : (old sim : SimulationV X) (was now : List ℕ) (rounds : ℕ) → 2 ^ 20 < rounds → Settles old sim was now rounds → Halts seen images old sim was now IsSettling (halts.Limit limits.Events)
+  pub settles_full : (old sim : SimulationV X) (was now : List ℕ) (rounds : ℕ) → EVENTS < rounds → Settles old sim was now rounds → Halts seen images old sim was now IsSettling (halts.Limit limits.Events)
   settles_full old sim was now rounds enough s run shows =
       absurd (so_far_crowded seen images sim was now run rounds (IsSettled run) (IsSettling run) IsSettled IsSettling enough (s.few run shows (omega arith)) (s.so_far run shows))

@@ -1,6 +1,7 @@
 -- What happens from one moment of an interpreter to another: events, what its simulation shows then, and their text.
 use Rattle.std.specs.Prelude.{◌≡◌, ◌⊎◌, ℕ, ◌+◌, ◌^◌, ◌≤◌, ◌&&◌, Bool, true, false, not, is_some, List, [], ◌∷◌, ◌++◌, length, Option, Some, None}
 use Rattle.std.specs.List.{slice_get}
+use Rattle.mds_base.specs.declared.limits.TheConstants.{EVENTS, MOMENTS}
 use Rattle.mds_base.specs.declared.setup.Which.{Which}
 use Rattle.mds_base.specs.declared.setup.Which.TheVariants as limits
 use Rattle.mds_base.specs.declared.store_fault.StoreFault.{StoreFault}
@@ -102,8 +103,8 @@ RepliesAt old new place (Some first) = RepliesTo old new place first
 
 -- the event would pass the limit
 abbrev pub Passes : Which → RunV → Event → Type 0
-Passes limits.Events run event = 2 ^ 20 ≤ length run.events
-Passes limits.Moment run (Tick by) = 2 ^ 43 ≤ run.trace.world.now + by
+Passes limits.Events run event = EVENTS ≤ length run.events
+Passes limits.Moment run (Tick by) = MOMENTS ≤ run.trace.world.now + by
 Passes limits.Directories run (Serve server places how) = (is_up (slice_get run.trace.world.servers server) ≡ true) × (can_serve (slice_get run.trace.world.servers server) ≡ false)
 Passes which run event = ⊥
 

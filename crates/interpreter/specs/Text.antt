@@ -1,11 +1,9 @@
--- How calls, replies and effects are printed.
+-- How replies and effects are printed; a call is printed as `script` says.
 use Rattle.std.specs.Prelude.{ℕ, List, [], ◌++◌, Option, Some, None, if◌then◌else◌, length, codes, decimal}
 use Rattle.std.specs.List.{flat_map}
 use Rattle.mds_base.specs.Entries.{is_file, stamp_of}
 use Rattle.mds_base.specs.declared.attr.Attr.{Attr}
 use Rattle.mds_base.specs.declared.attr.Stamp.{Stamp}
-use Rattle.mds_base.specs.declared.call.Call.{Call}
-use Rattle.mds_base.specs.declared.call.Call.TheVariants.{Create, Mkdir, Remove, Lookup, Setattr, Scan, Grab, Load, Link, Seal, Unseal, Kill, Unlink}
 use Rattle.mds_base.specs.declared.reply.Final.{Final}
 use Rattle.mds_base.specs.declared.reply.Final.TheVariants.{Created, CreatedDir, Exists, Removed, Missing, IsDir, Set, Ids, Loaded, Stale, Sealed, NotEmpty, Late, Opened, Killed}
 use Rattle.mds_base.specs.declared.reply.Reply.{Reply}
@@ -13,33 +11,14 @@ use Rattle.mds_base.specs.declared.reply.Reply.TheVariants.{Said, Found, Listed}
 use Rattle.mds_base.specs.declared.entry.Entry.{Entry}
 use Rattle.client_core.specs.declared.taken.Taken.{Taken}
 use Rattle.client_core.specs.declared.taken.Taken.TheVariants as takes
-use Rattle.script.specs.Text.{name_text}
+use Rattle.script.specs.Text.{call_text}
 use Rattle.simulation.specs.declared.made.Made.{Made}
 use Rattle.simulation.specs.Shows.{SimulationV, stands_in}
-
--- a name in its directory, after a verb
-abbrev pub place_text : List ℕ → ℕ → List ℕ → List ℕ
-place_text verb dir name = verb ++ codes " " ++ decimal dir ++ codes " " ++ name_text name
 
 -- an owner and a time of modification behind other words, where there are any
 abbrev pub stamp_text : Option Stamp → List ℕ
 stamp_text None = []
 stamp_text (Some stamp) = codes " " ++ decimal stamp.owner ++ codes " " ++ decimal stamp.mtime
-
-abbrev pub call_text : Call → List ℕ
-call_text (Create dir name) = place_text (codes "create") dir name
-call_text (Mkdir dir name) = place_text (codes "mkdir") dir name
-call_text (Remove dir name) = place_text (codes "remove") dir name
-call_text (Lookup dir name) = place_text (codes "lookup") dir name
-call_text (Setattr dir name mode size stamp) = place_text (codes "setattr") dir name ++ codes " " ++ decimal mode ++ codes " " ++ decimal size ++ stamp_text stamp
-call_text (Scan dir) = codes "scan " ++ decimal dir
-call_text (Grab dir name count) = place_text (codes "grab") dir name ++ codes " " ++ decimal count
-call_text (Load dir rows) = codes "load " ++ decimal dir ++ codes " " ++ decimal (length rows)
-call_text (Link dir name id) = place_text (codes "link") dir name ++ codes " " ++ decimal id
-call_text (Seal dir part epoch) = codes "seal " ++ decimal dir ++ codes " " ++ decimal part ++ codes " " ++ decimal epoch
-call_text (Unseal dir part epoch) = codes "unseal " ++ decimal dir ++ codes " " ++ decimal part ++ codes " " ++ decimal epoch
-call_text (Kill dir epoch) = codes "kill " ++ decimal dir ++ codes " " ++ decimal epoch
-call_text (Unlink dir name id) = place_text (codes "unlink") dir name ++ codes " " ++ decimal id
 
 -- what an entry is
 abbrev pub kind_text : Attr → List ℕ

@@ -1,6 +1,7 @@
 //! One event each, with the line that it prints.
-ghost use Rattle.std.specs.Prelude.{◌≡◌, ◌≢◌, ℕ, ◌+◌, ◌<◌, ◌≤◌, ◌^◌, true, is_some, length, Some, IfOk, IfErr, OnOk};
+ghost use Rattle.std.specs.Prelude.{◌≡◌, ◌≢◌, ℕ, ◌+◌, ◌<◌, ◌≤◌, true, is_some, length, Some, IfOk, IfErr, OnOk};
 ghost use Rattle.std.specs.List.{slice_get};
+ghost use Rattle.mds_base.specs.declared.limits.TheConstants.{EVENTS};
 ghost use Rattle.node_store.specs.Serve.{IsWellMade};
 ghost use Rattle.simulation.specs.Calls.{IsRequestAt};
 ghost use Rattle.simulation.specs.Fuses.{seen_by, images_by};
@@ -15,9 +16,10 @@ ghost use Rattle.interpreter.specs.Payments.{Pays};
 ghost use Rattle.interpreter.specs.Steps.{Carries, Halts, IsEvent, IsDeliveredTo, OrNone, RepliesAt, halt_of};
 ghost use Rattle.interpreter.specs.Story.{IsDelivery, IsRestarted, is_redirected, redirects};
 
-use crate::interpreter::{Halt, Interpreter, MOMENTS};
+use crate::interpreter::{Halt, Interpreter};
 use crate::text::{DownLine, StoppedLine, TakenLine};
 use client_core::Taken;
+use mds_base::limits::MOMENTS;
 use mds_base::{Call, StoreFault, Which};
 use mds_out::Disk;
 use simulation::{Restarted, Served};
@@ -60,7 +62,7 @@ impl<D: Disk> Interpreter<D> {
     /// the first message that this sent. A message that is for no server stays as it is.
     pub(crate) fn deliver(&mut self, alloc: Global, place: u64) -> Result<Option<u64>, Halt>
         ensures ok { IfOk result (λ first. is_some (server_for (slice_get self.old.simulation.sent place)) ≡ true → Carries (seen_by D.seen) (images_by D.images) self.old.simulation self.new.simulation self.old.pending.items self.new.pending.items (IsDeliveredTo place first)) }
-        ensures room { OnOk result (is_some (server_for (slice_get self.old.simulation.sent place)) ≡ true → self.old.simulation.count < 2 ^ 20) }
+        ensures room { OnOk result (is_some (server_for (slice_get self.old.simulation.sent place)) ≡ true → self.old.simulation.count < EVENTS) }
         ensures replies { IfOk result (λ first. RepliesAt self.old.simulation self.new.simulation place first) }
         ensures err { IfErr result (Halts (seen_by D.seen) (images_by D.images) self.old.simulation self.new.simulation self.old.pending.items self.new.pending.items (OrNone (λ run. IsDelivery run place))) }
         ensures paid { Pays D.faults self.old.simulation.stores self.new.simulation.stores self.old.pending.items self.new.pending.items none_at }
@@ -82,7 +84,7 @@ impl<D: Disk> Interpreter<D> {
         requires there { server < self.old.simulation.setup.servers }
         requires up { shown.is_up self.old.simulation server ≡ true }
         ensures ok { IfOk result (λ first. Carries (seen_by D.seen) (images_by D.images) self.old.simulation self.new.simulation self.old.pending.items self.new.pending.items (IsDeliveredTo place first)) }
-        ensures room { OnOk result (self.old.simulation.count < 2 ^ 20) }
+        ensures room { OnOk result (self.old.simulation.count < EVENTS) }
         ensures replies { IfOk result (λ first. RepliesAt self.old.simulation self.new.simulation place first) }
         ensures err { IfErr result (Halts (seen_by D.seen) (images_by D.images) self.old.simulation self.new.simulation self.old.pending.items self.new.pending.items (OrNone (λ run. IsDelivery run place))) }
         ensures paid { Pays D.faults self.old.simulation.stores self.new.simulation.stores self.old.pending.items self.new.pending.items none_at }
@@ -110,7 +112,7 @@ impl<D: Disk> Interpreter<D> {
         requires there { server < self.old.simulation.setup.servers }
         requires down { shown.is_up self.old.simulation server ≢ true }
         ensures ok { IfOk result (λ first. Carries (seen_by D.seen) (images_by D.images) self.old.simulation self.new.simulation self.old.pending.items self.new.pending.items (IsDeliveredTo place first)) }
-        ensures room { OnOk result (self.old.simulation.count < 2 ^ 20) }
+        ensures room { OnOk result (self.old.simulation.count < EVENTS) }
         ensures replies { IfOk result (λ first. RepliesAt self.old.simulation self.new.simulation place first) }
         ensures err { IfErr result (Halts (seen_by D.seen) (images_by D.images) self.old.simulation self.new.simulation self.old.pending.items self.new.pending.items (OrNone (λ run. IsDelivery run place))) }
         ensures paid { Pays D.faults self.old.simulation.stores self.new.simulation.stores self.old.pending.items self.new.pending.items none_at }

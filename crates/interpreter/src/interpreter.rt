@@ -1,23 +1,19 @@
-ghost use Rattle.std.specs.Prelude.{◌≡◌, ◌++◌, [], ◌<◌, ◌≤◌, ◌^◌, IfSome, OnOk, OnErr, MatchResult};
+ghost use Rattle.std.specs.Prelude.{◌≡◌, ◌++◌, [], ◌<◌, ◌≤◌, IfSome, OnOk, OnErr, MatchResult};
 ghost use Rattle.std.specs.Prelude.{map as list_map};
 ghost use Rattle.std.specs.Prelude.{List};
+ghost use Rattle.mds_base.specs.declared.limits.TheConstants.{EVENTS};
 ghost use Rattle.world.specs.declared.state.ServerState.{ServerState};
 ghost use Rattle.simulation.specs.Fuses.{seen_by, images_by};
 ghost use Rattle.simulation.specs.Shows.{AreServers};
 ghost use Rattle.simulation.specs.Starts.{AreDisks};
 
+use mds_base::limits::EVENTS;
 use mds_base::{Damage, Which};
 use mds_out::Disk;
 use simulation::Simulation;
 use std::alloc::{AllocError, Global};
 use std::fmt;
 use std::fmt::Write;
-
-/// The most events that a run may have.
-pub(crate) const EVENTS: u64 = 1 << 20;
-
-/// The moments that a run may have: it stays below this one.
-pub(crate) const MOMENTS: u64 = 1 << 43;
 
 /// Why a line was not carried out to its end.
 #[derive(Clone, Copy, Debug, PartialEq, Eq)]
@@ -78,7 +74,7 @@ impl<D: Disk> Interpreter<D> {
 
     /// Whether one event more may be carried out.
     pub(crate) fn admit(&self) -> Result<(), Halt>
-        ensures { MatchResult result (λ _. self.now.simulation.count < 2 ^ 20) (λ halt. (halt ≡ Halt.Limit Which.Events) × (2 ^ 20 ≤ self.now.simulation.count)) }
+        ensures { MatchResult result (λ _. self.now.simulation.count < EVENTS) (λ halt. (halt ≡ Halt.Limit Which.Events) × (EVENTS ≤ self.now.simulation.count)) }
     {
         if self.simulation.count() >= EVENTS {
             return Err(Halt::Limit {

@@ -13,7 +13,8 @@ ghost use Rattle.interpreter.specs.Payments.{Pays, fuses_of};
 ghost use Rattle.interpreter.specs.Steps.{Carries, Halts, IsRound, IsRequested, allows, may_stand};
 ghost use Rattle.interpreter.specs.Story.{IsSaid, IsBegun, IsDone, IsFollowed, IsFollowing, IsSettled, IsSettling, IsSentAndFollowed, IsSending, is_allowed};
 
-use crate::interpreter::{EVENTS, Halt, Interpreter};
+use crate::interpreter::{Halt, Interpreter};
+use mds_base::limits::EVENTS;
 use mds_base::{Call, Which};
 use mds_out::Disk;
 use script::Line;
@@ -53,13 +54,7 @@ impl<D: Disk> Interpreter<D> {
             Line::Fuse { .. } => true,
             Line::Stop { server } => self.simulation.is_up(*server),
             Line::Restart { server } => !self.simulation.is_up(*server),
-            Line::Batch { .. } => false,
-            Line::Remind { .. } => false,
-            Line::Walk { .. } => false,
-            Line::Bulk { .. } => false,
-            Line::Rmdir { .. } => false,
-            Line::Feed { .. } => false,
-            Line::Promote { .. } => false,
+            _ => false,
         }
     }
 
@@ -97,13 +92,8 @@ impl<D: Disk> Interpreter<D> {
             }
             Line::Stop { server } => self.stop(server),
             Line::Restart { server } => self.restart(alloc, server),
-            Line::Batch { .. } => unreachable!(),
-            Line::Remind { .. } => unreachable!(),
-            Line::Walk { .. } => unreachable!(),
-            Line::Bulk { .. } => unreachable!(),
-            Line::Rmdir { .. } => unreachable!(),
-            Line::Feed { .. } => unreachable!(),
-            Line::Promote { .. } => unreachable!(),
+            // It has not come.
+            _ => unreachable!(),
         }
     }
 

@@ -3,7 +3,7 @@ use Rattle.std.proofs.Common.{◌≡◌, ◌∙◌, sym, ap, ℕ, ◌-◌, ◌<�
 use Rattle.std.specs.Result.{IsErrAnd}
 use Rattle.std.proofs.lemmas.List.{append-nil}
 use Rattle.script.specs.declared.fault.LineFault.{LineFault}
-use Rattle.script.specs.declared.fault.LineFault.TheVariants.{NotALine, OutOfMemory}
+use Rattle.script.specs.declared.fault.LineFault.TheVariants.{NotALine}
 use Rattle.script.specs.Answers.{Gives}
 use Rattle.script.specs.Reading.{◌>>=◌, is_end, number_at, numbers_at}
 
@@ -63,7 +63,6 @@ pub numbers_full : (most : ℕ) (numbers bytes : List ℕ) (all : Option (List �
 numbers_full most numbers bytes all none so_far = done numbers bytes (numbers_at most bytes) all (at_zero most bytes none) so_far
 
 -- a call that passes on that nothing was read
-pub gives_none : {X Y U V : Type 0} (view : X → Y) (seen : U → V) (e : LineFault) (r : Result U LineFault) (read : Option Y) (all : Option V) → Gives view (Err e) read → IsErrAnd r (λ f. f ≡ e) → (read ≡ None → all ≡ None) → Gives seen r all
-gives_none view seen e (Ok x) read all gives is next = absurd is
-gives_none view seen NotALine (Err f) read all gives is next = subst (λ (f : LineFault). Gives seen (Err f) all) (sym is) (next gives)
-gives_none view seen OutOfMemory (Err f) read all gives is next = subst (λ (f : LineFault). Gives seen (Err f) all) (sym is) tt
+pub gives_none : {X Y : Type 0} (view : X → Y) (r : Result X LineFault) (all : Option Y) → IsErrAnd r (λ f. f ≡ NotALine) → all ≡ None → Gives view r all
+gives_none view (Ok x) all is none = absurd is
+gives_none view (Err f) all is none = subst (λ (f : LineFault). Gives view (Err f) all) (sym is) none

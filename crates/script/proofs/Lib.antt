@@ -3,5 +3,7 @@ pub mod Numerals
 pub mod Unescaping
 pub mod Batches
 pub mod Sentences
+pub mod Keeping
 pub mod Meanings
 pub mod Printing
+pub mod Plain

@@ -1,6 +1,6 @@
 -- What bytes say as a line.
 use Rattle.std.proofs.Common.{◌≡◌, ◌∙◌, sym, ap, subst, refl, ℕ, List, [], ◌∷◌, get_or, take, drop, false, Option, Some, MatchOption, Result, Ok, Err, inl, inr}
-use Rattle.std.specs.Prelude.{IfOk, IsErrOf}
+use Rattle.std.specs.Prelude.{IfOk, IfSome, IsErrOf, IsTrue}
 use Rattle.std.specs.Prelude.{◌==◌}
 use Rattle.std.proofs.lemmas.Bool.{true≢false, eq-eqb}
 use Rattle.std.proofs.lemmas.Option.{same_Some, none-some}
@@ -9,9 +9,9 @@ use Rattle.script.specs.declared.line.Line.{Line}
 use Rattle.script.specs.declared.line.Line.TheVariants.{Skipped, Call, Issue, Retry, Deliver, Batch, Take, Settle, Remind, Tick, Fuse, Stop, Restart, Walk, Bulk, Rmdir, Feed, Promote}
 use Rattle.script.specs.declared.fault.LineFault.{LineFault}
 use Rattle.script.specs.declared.fault.LineFault.TheVariants.{NotALine, OutOfMemory}
-use Rattle.script.specs.Answers.{Gives, IsLineOrMemory}
+use Rattle.script.specs.Answers.{Gives, OnMemory, IsLineOrMemory}
 use Rattle.script.specs.Words.{letters, word_at}
-use Rattle.script.specs.Grammar.{Part, Keyword, Number, Named, Raw, Rest, AreSaid, line_parts, IsComment, IsLine}
+use Rattle.script.specs.Grammar.{Part, Keyword, Number, Named, Raw, Rest, AreSaid, line_parts, IsComment, IsLine, keeps}
 use Rattle.script.specs.Reading.{line_of}
 use Rattle.script.proofs.Splitting.{word-plain}
 use Rattle.script.proofs.Sentences.{line_is, line_found}
@@ -87,3 +87,10 @@ read_only setup bytes (Err OutOfMemory) gives apart line (inr p) = tt
 
 pub refused_only : (setup : Setup) (bytes : List ℕ) (r : Result Line LineFault) → Gives (λ line. line) r (line_of setup bytes) → (IsComment bytes → ⊥) → IsErrOf r NotALine → (line : Line) → IsLine setup bytes line → ⊥
 refused_only setup bytes r gives apart refused line is = subst (λ (r : Result Line LineFault). IsLineOrMemory r line) refused (read_only setup bytes r gives apart line is)
+
+pub read_plain : (setup : Setup) (bytes : List ℕ) (r : Result Line LineFault) → Gives (λ line. line) r (line_of setup bytes) → OnMemory r (IfSome (line_of setup bytes) (λ line. IsTrue (keeps line))) → (IsComment bytes → ⊥) → (line : Line) → IsLine setup bytes line → keeps line ≡ false → r ≡ Ok line
+read_plain setup bytes r gives memory apart line (inl p) plain = absurd (apart p.0)
+read_plain setup bytes (Ok found) gives memory apart line (inr p) plain = ap Ok (same_Some found line (sym gives ∙ line_is setup bytes line p.0 p.1))
+read_plain setup bytes (Err NotALine) gives memory apart line (inr p) plain = absurd (none-some line (sym gives ∙ line_is setup bytes line p.0 p.1))
+read_plain setup bytes (Err OutOfMemory) gives memory apart line (inr p) plain =
+    absurd (true≢false (sym (subst (λ o. IfSome o (λ line. IsTrue (keeps line))) (line_is setup bytes line p.0 p.1) memory) ∙ plain))

@@ -1,17 +1,16 @@
 -- Words that are numbers.
-use Rattle.std.proofs.Common.{◌≡◌, ◌∙◌, sym, ap, subst, refl, ℕ, ◌<◌, ◌^◌, zero, suc, List, [], ◌∷◌, length, get_or, lit<, Bool, cond, arith, Option, Some, None, Result, Ok, Err, decimal, nat_eq, nat_lt}
+use Rattle.std.proofs.Common.{◌≡◌, ◌∙◌, sym, ap, subst, refl, ℕ, ◌+◌, ◌*◌, ◌<◌, ◌≤◌, ◌^◌, zero, suc, List, [], ◌∷◌, ◌++◌, length, take, drop, get_or, take-append-drop, lit<, Bool, cond, arith, Option, Some, None, decimal, nat_eq, nat_lt}
 use Rattle.std.specs.Prelude.{◌&&◌}
 use Rattle.std.specs.Cmp.Lexicographic.{pointwise}
 use Rattle.std.specs.Char.{digit_value}
-use Rattle.std.specs.Result.{OkIff}
-use Rattle.std.specs.Str.{IsUtf8, IsAscii}
-use Rattle.std.specs.Str.Parse.{ParsesUnsigned, AllDigits, digits_value}
-use Rattle.std.proofs.lemmas.Str.Parse.{IsNumeralModel, parse_plain}
+use Rattle.std.specs.Str.Parse.{AllDigits, digits_value, digits_value_after}
+use Rattle.std.proofs.lemmas.Str.Parse.{IsNumeralModel}
 use Rattle.std.proofs.lemmas.Bool.{and_parts, and_from, ltb-true, lt-ltb}
 use Rattle.std.proofs.lemmas.Option.{cond_some}
+use Rattle.std.proofs.lemmas.List.{take_all}
+use Rattle.std.proofs.lemmas.Int.Digits.{digits_more, digits_value_more}
 use Rattle.std.proofs.lemmas.Slice.Eq.{bytes_eq-Decides}
-use Rattle.std.proofs.lemmas.Fmt.{parse-decimal, IsAscii-decimal, decimal_is_IsNumeral, decimal-digits_value, digits_decimal, decimal_nonempty, decimal_digit, length-decimal-le, first_decimal}
-use Rattle.std.proofs.lemmas.Str.{IsUtf8-from_ascii}
+use Rattle.std.proofs.lemmas.Fmt.{decimal_is_IsNumeral, decimal-digits_value, digits_decimal, decimal_nonempty, decimal_digit, length-decimal-le, first_decimal}
 use Rattle.script.specs.Grammar.{IsNumeral}
 use Rattle.script.specs.Reading.{number_of}
 
@@ -48,20 +47,6 @@ no_number word none = by (number_of word) refl
     by None is = is
     by (Some n) is = let found = number_found word n is in absurd (none n found.fits found.is)
 
--- What the code does with a word: it reads it as text, as the text of a number, and compares
-
-pub no_text : (word : List ℕ) → (IsUtf8 word → ⊥) → (n : ℕ) → n < 2 ^ 64 → word ≡ decimal n → ⊥
-no_text word none n fits is = none (IsUtf8-from_ascii word (subst IsAscii (sym is) (IsAscii-decimal n fits)))
-
-pub parses_to : {E : Type 0} (word : List ℕ) (r : Result ℕ E) → ParsesUnsigned 64 10 word r → (n : ℕ) → n < 2 ^ 64 → word ≡ decimal n → r ≡ Ok n
-parses_to word r parsed n fits is = parse-decimal 64 n word r fits fits is parsed
-
-pub no_ok : {E : Type 0} (r : Result ℕ E) (n : ℕ) (e : E) → r ≡ Ok n → r ≡ Err e → ⊥
-no_ok r n e good bad = let both : Ok n ≡ Err e = sym good ∙ bad in cc
-
-pub one_ok : {E : Type 0} (r : Result ℕ E) (m n : ℕ) → r ≡ Ok m → r ≡ Ok n → m ≡ n
-one_ok r m n first second = let both : Ok m ≡ Ok n = sym first ∙ second in cc
-
 -- ---- the words that are numbers
 
 own : IsNumeralModel (AllDigits 10) (digits_value 10)
@@ -91,19 +76,54 @@ numeral_of n fits =
 pub numeral_found : (word : List ℕ) (n : ℕ) → (word ≡ decimal n) × (n < 2 ^ 64) → IsNumeral word × (digits_value 10 word ≡ n)
 numeral_found word n spelled = subst (λ w. IsNumeral w × (digits_value 10 w ≡ n)) (sym spelled.0) (numeral_of n spelled.1)
 
--- ---- a word that begins as a number and parses
-
-first_digit : (word : List ℕ) → AllDigits 10 word → get_or word 0 0 ≡ 43 → ⊥
-first_digit [] all is = let e : 0 ≡ 43 = is in omega (arith, e)
-first_digit (byte ∷ word) all is = let below : digit_value 43 < 10 = subst (λ b. digit_value b < 10) is all.0 in omega (arith, below)
+-- ---- What the code does with a word: it reads it digit by digit
 
 -- the spelling of a number begins as a number
-pub begins_so : (word : List ℕ) (n : ℕ) → n < 2 ^ 64 → word ≡ decimal n → (get_or word 0 0 ≡ 43 → ⊥) × (get_or word 0 0 ≡ 48 → length word ≡ 1)
-begins_so word n fits is = let found = numeral_found word n (is, fits) in (first_digit word found.0.digits, found.0.plain)
+pub begins_so : (word : List ℕ) (n : ℕ) → n < 2 ^ 64 → word ≡ decimal n → (0 < length word) × (get_or word 0 0 ≡ 48 → length word ≡ 1)
+begins_so word n fits is = let found = numeral_found word n (is, fits) in (found.0.some, found.0.plain)
 
-pub parsed_number : {E : Type 0} (word : List ℕ) (n : ℕ) (r : Result ℕ E) → ParsesUnsigned 64 10 word r → r ≡ Ok n → (get_or word 0 0 ≡ 43 → ⊥) → (get_or word 0 0 ≡ 48 → length word ≡ 1) → number_of word ≡ Some n
-parsed_number word n r parsed is sign alone =
-    let read = subst (λ r. OkIff r (AllDigits 10 word × (0 < length word) × (digits_value 10 word < 2 ^ 64)) (digits_value 10 word)) is (parse_plain own 64 word r parsed sign) in
-    number_is word n
-    (sym (decimal-digits_value own word read.0.0 read.0.1 alone read.0.2) ∙ ap decimal (sym read.1))
-    (subst (λ v. v < 2 ^ 64) (sym read.1) read.0.2)
+digit_in : (word : List ℕ) (i : ℕ) → AllDigits 10 word → i < length word → digit_value (get_or word i 0) < 10
+digit_in [] i all within = absurd (omega (arith, within))
+digit_in (byte ∷ word) zero all within = all.0
+digit_in (byte ∷ word) (suc i) all within = digit_in word i all.1 (omega (arith, within))
+
+-- a byte that is no digit
+pub no_digit : (word : List ℕ) (i : ℕ) → i < length word → (digit_value (get_or word i 0) < 10 → ⊥) → number_of word ≡ None
+no_digit word i within other = no_number word (λ n fits is. other (digit_in word i (numeral_found word n (is, fits)).0.digits within))
+
+le_after : (n : ℕ) (digits : List ℕ) → n ≤ digits_value_after 10 n digits
+le_after n [] = omega arith
+le_after n (digit ∷ digits) = let more = le_after (n * 10 + digit_value digit) digits in omega (arith, more)
+
+front_after : (n : ℕ) (front digits : List ℕ) → digits_value_after 10 n front ≤ digits_value_after 10 n (front ++ digits)
+front_after n [] digits = le_after n digits
+front_after n (digit ∷ front) digits = front_after (n * 10 + digit_value digit) front digits
+
+front_value : (word : List ℕ) (i : ℕ) → digits_value 10 (take i word) ≤ digits_value 10 word
+front_value word i = subst (λ w. digits_value 10 (take i word) ≤ digits_value 10 w) (take-append-drop i word) (front_after 0 (take i word) (drop i word))
+
+-- digits of a number that is too great
+pub too_great : (word : List ℕ) (i : ℕ) → i < length word → 2 ^ 64 ≤ digits_value 10 (take i word) * 10 + digit_value (get_or word i 0) → number_of word ≡ None
+too_great word i within great = no_number word (λ n fits is.
+    let found = numeral_found word n (is, fits) in
+    omega (arith, great, digits_value_more 10 word i within, front_value word (i + 1), found.1, fits))
+
+-- one digit more
+pub digit_more : (word : List ℕ) (i number : ℕ) → i < length word → AllDigits 10 (take i word) → number ≡ digits_value 10 (take i word) → digit_value (get_or word i 0) < 10 → AllDigits 10 (take (i + 1) word) × (number * 10 + digit_value (get_or word i 0) ≡ digits_value 10 (take (i + 1) word))
+digit_more word i number within all is digit = (digits_more 10 word i within all digit, ap (λ n. n * 10 + digit_value (get_or word i 0)) is ∙ sym (digits_value_more 10 word i within))
+
+-- the product, and the sum, of one digit more
+pub product_great : (number value digit : ℕ) → number ≡ value → (number * 10 < 2 ^ 64 → ⊥) → 2 ^ 64 ≤ value * 10 + digit
+product_great number value digit is great = omega (arith, is, great)
+
+pub sum_great : (number value product digit wide : ℕ) → number ≡ value → product ≡ number * 10 → wide ≡ digit → (product + wide < 2 ^ 64 → ⊥) → 2 ^ 64 ≤ value * 10 + digit
+sum_great number value product digit wide is times same great = omega (arith, is, times, same, great)
+
+pub sum_is : (number product digit wide total : ℕ) → product ≡ number * 10 → wide ≡ digit → total ≡ product + wide → total ≡ number * 10 + digit
+sum_is number product digit wide total times same is = omega (arith, times, same, is)
+
+pub whole_number : (word : List ℕ) (i number : ℕ) → length word ≤ i → 0 < length word → (get_or word 0 0 ≡ 48 → length word ≡ 1) → AllDigits 10 (take i word) → number ≡ digits_value 10 (take i word) → number < 2 ^ 64 → number_of word ≡ Some number
+whole_number word i number past some alone digits is fits =
+    let all = subst (AllDigits 10) (take_all i word past) digits in
+    let value : number ≡ digits_value 10 word = is ∙ ap (digits_value 10) (take_all i word past) in
+    number_is word number (sym (decimal-digits_value own word all some alone (subst (λ v. v < 2 ^ 64) value fits)) ∙ ap decimal (sym value)) fits

@@ -1,7 +1,7 @@
 -- Lines that are printed are read back.
 use Rattle.std.proofs.Common.{◌≡◌, ◌∙◌, sym, subst, refl, ℕ, ◌+◌, ◌*◌, ◌<◌, ◌≤◌, ◌^◌, ◌/◌, ◌%◌, List, [], ◌∷◌, ◌++◌, Bool, true, false, not, cond, arith, decimal, nat_le, Option, Some, None, MatchOption, IsTrue, inl, inr}
 use Rattle.std.specs.Prelude.{◌==◌, ◌&&◌}
-use Rattle.std.specs.List.{AllByRecursion}
+use Rattle.std.specs.List.{AllByRecursion, list_all}
 use Rattle.std.specs.Char.{digit_value}
 use Rattle.std.specs.Fmt.{digit_glyph}
 use Rattle.std.proofs.lemmas.Bool.{and_parts, and_from, not-true, leb-true, eqb-true, eqb-false, ne_eqb, or_from, agree_below_at, not_from_false}
@@ -114,24 +114,44 @@ are_ordered (Raw text ∷ parts) = are_ordered parts
 are_ordered (Rest text ∷ []) = true
 are_ordered (Rest text ∷ part ∷ parts) = false
 
-stamp_ordered : (stamp : Option Stamp) → are_ordered (stamp_parts stamp) ≡ true
-stamp_ordered None = refl
-stamp_ordered (Some stamp) = refl
+-- words of printed bytes, numbers and names alone
+abbrev pub is_simple : Part → Bool
+is_simple (Keyword text) = is_word text && list_all is_plain_byte text
+is_simple (Number number) = true
+is_simple (Named name) = true
+is_simple part = false
+
+simple_ordered : (parts : List Part) → list_all is_simple parts ≡ true → are_ordered parts ≡ true
+simple_ordered [] simple = refl
+simple_ordered (Keyword text ∷ parts) simple =
+    let both = and_parts (is_simple (Keyword text)) (list_all is_simple parts) simple in
+    and_from (is_word text) (are_ordered parts) (and_parts (is_word text) (list_all is_plain_byte text) both.0).0 (simple_ordered parts both.1)
+simple_ordered (Number number ∷ parts) simple = simple_ordered parts simple
+simple_ordered (Named name ∷ parts) simple = simple_ordered parts simple
+simple_ordered (Raw text ∷ parts) simple = absurd cc
+simple_ordered (Rest text ∷ parts) simple = absurd cc
+
+stamp_simple : (stamp : Option Stamp) → list_all is_simple (stamp_parts stamp) ≡ true
+stamp_simple None = refl
+stamp_simple (Some stamp) = refl
+
+pub call_simple : (call : Call) → list_all is_simple (call_parts call) ≡ true
+call_simple (calls.Create dir name) = refl
+call_simple (calls.Mkdir dir name) = refl
+call_simple (calls.Remove dir name) = refl
+call_simple (calls.Lookup dir name) = refl
+call_simple (calls.Setattr dir name mode size stamp) = stamp_simple stamp
+call_simple (calls.Scan dir) = refl
+call_simple (calls.Grab dir name count) = refl
+call_simple (calls.Load dir rows) = refl
+call_simple (calls.Link dir name id) = refl
+call_simple (calls.Seal dir part epoch) = refl
+call_simple (calls.Unseal dir part epoch) = refl
+call_simple (calls.Kill dir epoch) = refl
+call_simple (calls.Unlink dir name id) = refl
 
 call_ordered : (call : Call) → are_ordered (call_parts call) ≡ true
-call_ordered (calls.Create dir name) = refl
-call_ordered (calls.Mkdir dir name) = refl
-call_ordered (calls.Remove dir name) = refl
-call_ordered (calls.Lookup dir name) = refl
-call_ordered (calls.Setattr dir name mode size stamp) = stamp_ordered stamp
-call_ordered (calls.Scan dir) = refl
-call_ordered (calls.Grab dir name count) = refl
-call_ordered (calls.Load dir rows) = refl
-call_ordered (calls.Link dir name id) = refl
-call_ordered (calls.Seal dir part epoch) = refl
-call_ordered (calls.Unseal dir part epoch) = refl
-call_ordered (calls.Kill dir epoch) = refl
-call_ordered (calls.Unlink dir name id) = refl
+call_ordered call = simple_ordered (call_parts call) (call_simple call)
 
 numbers_ordered : (numbers : List ℕ) → are_ordered (number_parts numbers) ≡ true
 numbers_ordered [] = refl

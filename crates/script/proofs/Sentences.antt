@@ -3,9 +3,11 @@ use Rattle.std.proofs.Common.{◌≡◌, ◌∙◌, sym, ap, subst, refl, ℕ, �
 use Rattle.std.specs.Prelude.{◌&&◌}
 use Rattle.std.specs.List.{find}
 use Rattle.std.specs.Cmp.Lexicographic.{pointwise}
-use Rattle.std.proofs.lemmas.Bool.{and_parts, and_from, leb-true, le-leb, ltb-true, lt-ltb}
+use Rattle.std.proofs.lemmas.Bool.{true≢false, and_parts, and_from, leb-true, le-leb, ltb-true, lt-ltb}
 use Rattle.std.proofs.lemmas.Option.{cond_some, same_Some}
 use Rattle.std.proofs.lemmas.Slice.Eq.{bytes_eq-Decides}
+use Rattle.mds_base.specs.declared.limits.TheConstants.{MODE_MOST, BATCH_MOST, TICK_MOST, FUSE_MOST}
+use Rattle.mds_base.specs.Calls.{is_directory}
 use Rattle.mds_base.specs.Name.{is_name}
 use Rattle.mds_base.specs.declared.attr.Stamp.{Stamp}
 use Rattle.mds_base.specs.declared.call.Call.{Call}
@@ -18,7 +20,7 @@ use Rattle.script.specs.declared.verb.Verb.TheVariants as verbs
 use Rattle.script.specs.declared.verb.CallVerb.{CallVerb}
 use Rattle.script.specs.declared.verb.CallVerb.TheVariants as asked
 use Rattle.script.specs.Words.{word_at, rest_at}
-use Rattle.script.specs.Grammar.{Part, Keyword, Number, Named, Raw, Rest, IsSpelled, AreSaid, stamp_parts, call_parts, number_parts, line_parts, IsDirectory, IsStamp, IsAsked, IsClient, IsServer, IsWithin}
+use Rattle.script.specs.Grammar.{Part, Keyword, Number, Named, Raw, Rest, IsSpelled, AreSaid, stamp_parts, call_parts, number_parts, line_parts, IsStamp, IsAsked, IsClient, IsServer, IsWithin}
 use Rattle.script.specs.Names.{SpellsName}
 use Rattle.script.specs.Reading.{◌>>=◌, number_of, unescaped, checked_name, name_of, verb_text, call_verb_text, each_verb, each_call_verb, verb_of, call_verb_of, is_end, number_at, number_within, server_at, client_at, directory_at, name_at, place_at, stamp_here, stamp_at, setattr_after, call_after, call_at, asked_at, numbers_at, call_line, issue_line, retry_line, deliver_line, batch_line, take_line, remind_line, tick_line, fuse_line, stop_line, restart_line, walk_line, bulk_line, rmdir_line, feed_line, promote_line, line_after, line_from, line_of}
 use Rattle.script.proofs.Numerals.{number_is, number_found}
@@ -97,10 +99,17 @@ record Places (bytes : List ℕ) (dir : ℕ) (name : List ℕ) (more : List Part
   is : place_at bytes ≡ Some (dir, name, rest)
   later : AreSaid rest more
 
-directory_again : (bytes : List ℕ) (dir : ℕ) (more : List Part) → AreSaid bytes (Number dir ∷ more) → IsDirectory dir → Takes (directory_at bytes) dir more
-directory_again bytes dir more s within = within_again 1 (2 ^ 48 - 1) bytes dir more s within.0 (omega (arith, within.1))
+directory_again : (bytes : List ℕ) (dir : ℕ) (more : List Part) → AreSaid bytes (Number dir ∷ more) → IsTrue (is_directory dir) → Takes (directory_at bytes) dir more
+unfolding directory_at
+directory_again bytes dir more s within =
+    let n = number_again bytes dir more s in
+    record {
+      rest = n.rest;
+      is = ap (λ o. o >>= (λ n. cond (is_directory n.0) (Some n) None)) n.is ∙ ap (λ t. cond t (Some (dir, n.rest)) None) within;
+      later = n.later;
+    }
 
-place_again : (bytes : List ℕ) (dir : ℕ) (name : List ℕ) (more : List Part) → AreSaid bytes (Number dir ∷ Named name ∷ more) → IsDirectory dir → Places bytes dir name more
+place_again : (bytes : List ℕ) (dir : ℕ) (name : List ℕ) (more : List Part) → AreSaid bytes (Number dir ∷ Named name ∷ more) → IsTrue (is_directory dir) → Places bytes dir name more
 unfolding place_at
 place_again bytes dir name more s within =
     let d = directory_again bytes dir (Named name ∷ more) s within in
@@ -170,10 +179,10 @@ verb_again bytes verb more s =
       later = w.later;
     }
 
-setattr_again : (bytes : List ℕ) (dir : ℕ) (name : List ℕ) (mode size : ℕ) (stamp : Option Stamp) → AreSaid bytes (Number mode ∷ Number size ∷ stamp_parts stamp) → mode ≤ 4095 → IsStamp stamp → Takes (setattr_after dir name bytes) (calls.Setattr dir name mode size stamp) []
+setattr_again : (bytes : List ℕ) (dir : ℕ) (name : List ℕ) (mode size : ℕ) (stamp : Option Stamp) → AreSaid bytes (Number mode ∷ Number size ∷ stamp_parts stamp) → mode ≤ MODE_MOST → IsStamp stamp → Takes (setattr_after dir name bytes) (calls.Setattr dir name mode size stamp) []
 unfolding setattr_after
 setattr_again bytes dir name mode size stamp s small within =
-    let m = within_again 0 4095 bytes mode (Number size ∷ stamp_parts stamp) s (omega arith) small in
+    let m = within_again 0 MODE_MOST bytes mode (Number size ∷ stamp_parts stamp) s (omega arith) small in
     let n = number_again m.rest size (stamp_parts stamp) m.later in
     let t = stamp_again n.rest stamp n.later within in
     record { rest = t.rest; is = rw (m.is, n.is, t.is) refl; later = t.later }
@@ -182,36 +191,37 @@ call_again : (bytes : List ℕ) (call : Call) → AreSaid bytes (call_parts call
 unfolding call_after
 call_again bytes (calls.Create dir name) s within =
     let w = verb_again bytes asked.Create (Number dir ∷ Named name ∷ []) s in
-    let p = place_again w.rest dir name [] w.later within in
+    let p = place_again w.rest dir name [] w.later within.made in
     record { rest = p.rest; is = w.is ∙ rw p.is refl; later = p.later }
 call_again bytes (calls.Mkdir dir name) s within =
     let w = verb_again bytes asked.Mkdir (Number dir ∷ Named name ∷ []) s in
-    let p = place_again w.rest dir name [] w.later within in
+    let p = place_again w.rest dir name [] w.later within.made in
     record { rest = p.rest; is = w.is ∙ rw p.is refl; later = p.later }
 call_again bytes (calls.Remove dir name) s within =
     let w = verb_again bytes asked.Remove (Number dir ∷ Named name ∷ []) s in
-    let p = place_again w.rest dir name [] w.later within in
+    let p = place_again w.rest dir name [] w.later within.made in
     record { rest = p.rest; is = w.is ∙ rw p.is refl; later = p.later }
 call_again bytes (calls.Lookup dir name) s within =
     let w = verb_again bytes asked.Lookup (Number dir ∷ Named name ∷ []) s in
-    let p = place_again w.rest dir name [] w.later within in
+    let p = place_again w.rest dir name [] w.later within.made in
     record { rest = p.rest; is = w.is ∙ rw p.is refl; later = p.later }
 call_again bytes (calls.Setattr dir name mode size stamp) s within =
+    let both = and_parts (is_directory dir) (nat_le mode MODE_MOST) within.made in
     let w = verb_again bytes asked.Setattr (Number dir ∷ Named name ∷ Number mode ∷ Number size ∷ stamp_parts stamp) s in
-    let p = place_again w.rest dir name (Number mode ∷ Number size ∷ stamp_parts stamp) w.later within.0 in
-    let a = setattr_again p.rest dir name mode size stamp p.later within.1 within.2 in
+    let p = place_again w.rest dir name (Number mode ∷ Number size ∷ stamp_parts stamp) w.later both.0 in
+    let a = setattr_again p.rest dir name mode size stamp p.later (leb-true mode MODE_MOST both.1) within.stamp in
     record { rest = a.rest; is = w.is ∙ rw p.is a.is; later = a.later }
 call_again bytes (calls.Scan dir) s within =
     let w = verb_again bytes asked.Scan (Number dir ∷ []) s in
-    let d = directory_again w.rest dir [] w.later within in
+    let d = directory_again w.rest dir [] w.later within.made in
     record { rest = d.rest; is = w.is ∙ rw d.is refl; later = d.later }
-call_again bytes (calls.Grab dir name count) s within = absurd within
-call_again bytes (calls.Load dir rows) s within = absurd within
-call_again bytes (calls.Link dir name id) s within = absurd within
-call_again bytes (calls.Seal dir part epoch) s within = absurd within
-call_again bytes (calls.Unseal dir part epoch) s within = absurd within
-call_again bytes (calls.Kill dir epoch) s within = absurd within
-call_again bytes (calls.Unlink dir name id) s within = absurd within
+call_again bytes (calls.Grab dir name count) s within = absurd (true≢false (sym within.verb))
+call_again bytes (calls.Load dir rows) s within = absurd (true≢false (sym within.verb))
+call_again bytes (calls.Link dir name id) s within = absurd (true≢false (sym within.verb))
+call_again bytes (calls.Seal dir part epoch) s within = absurd (true≢false (sym within.verb))
+call_again bytes (calls.Unseal dir part epoch) s within = absurd (true≢false (sym within.verb))
+call_again bytes (calls.Kill dir epoch) s within = absurd (true≢false (sym within.verb))
+call_again bytes (calls.Unlink dir name id) s within = absurd (true≢false (sym within.verb))
 
 client_again : (setup : Setup) (bytes : List ℕ) (client : ℕ) (more : List Part) → AreSaid bytes (Number client ∷ more) → IsClient setup client → Takes (client_at setup bytes) client more
 client_again setup bytes client more s within = within_again 1 setup.clients bytes client more s within.0 within.1
@@ -247,11 +257,11 @@ tail_again setup bytes verb line parts s later =
     let l = later w.rest w.later in
     ap (line_from setup) w.is ∙ rw (verb_is verb, l.is, ended l.rest l.later) refl
 
-batch_again : (setup : Setup) (bytes : List ℕ) (server : ℕ) (places : List ℕ) → AreSaid bytes (Number server ∷ number_parts places) → IsServer setup server → 1 ≤ length places → length places ≤ 64 → Takes (batch_line setup bytes) (lines.Batch server places) []
+batch_again : (setup : Setup) (bytes : List ℕ) (server : ℕ) (places : List ℕ) → AreSaid bytes (Number server ∷ number_parts places) → IsServer setup server → 1 ≤ length places → length places ≤ BATCH_MOST → Takes (batch_line setup bytes) (lines.Batch server places) []
 unfolding batch_line
 batch_again setup bytes server places s below some few =
     let v = server_again setup bytes server (number_parts places) s below in
-    let n = numbers_again 64 v.rest places v.later few in
+    let n = numbers_again BATCH_MOST v.rest places v.later few in
     record { rest = n.rest; is = rw (v.is, n.is, le-leb 1 (length places) some) refl; later = n.later }
 
 nothing_again : (setup : Setup) (bytes : List ℕ) → AreSaid bytes [] → line_of setup bytes ≡ Some lines.Skipped
@@ -269,8 +279,8 @@ line_is setup bytes (lines.Batch server places) s within = tail_again setup byte
 line_is setup bytes (lines.Take client place) s within = tail_again setup bytes verbs.Take (lines.Take client place) (Number client ∷ Number place ∷ []) s (λ rest t. let c = client_again setup rest client (Number place ∷ []) t within in let n = number_again c.rest place [] c.later in record { rest = n.rest; is = rw (c.is, n.is) refl; later = n.later })
 line_is setup bytes lines.Settle s within = tail_again setup bytes verbs.Settle lines.Settle [] s (λ rest t. record { rest = rest; is = refl; later = t })
 line_is setup bytes (lines.Remind server) s within = tail_again setup bytes verbs.Remind (lines.Remind server) (Number server ∷ []) s (λ rest t. let v = server_again setup rest server [] t within in record { rest = v.rest; is = rw v.is refl; later = v.later })
-line_is setup bytes (lines.Tick by) s within = tail_again setup bytes verbs.Tick (lines.Tick by) (Number by ∷ []) s (λ rest t. let n = within_again 1 (2 ^ 32) rest by [] t within.0 within.1 in record { rest = n.rest; is = rw n.is refl; later = n.later })
-line_is setup bytes (lines.Fuse server calls) s within = tail_again setup bytes verbs.Fuse (lines.Fuse server calls) (Number server ∷ Number calls ∷ []) s (λ rest t. let v = server_again setup rest server (Number calls ∷ []) t within.0 in let n = within_again 0 (2 ^ 32) v.rest calls [] v.later (omega arith) within.1 in record { rest = n.rest; is = rw (v.is, n.is) refl; later = n.later })
+line_is setup bytes (lines.Tick by) s within = tail_again setup bytes verbs.Tick (lines.Tick by) (Number by ∷ []) s (λ rest t. let n = within_again 1 TICK_MOST rest by [] t within.0 within.1 in record { rest = n.rest; is = rw n.is refl; later = n.later })
+line_is setup bytes (lines.Fuse server calls) s within = tail_again setup bytes verbs.Fuse (lines.Fuse server calls) (Number server ∷ Number calls ∷ []) s (λ rest t. let v = server_again setup rest server (Number calls ∷ []) t within.0 in let n = within_again 0 FUSE_MOST v.rest calls [] v.later (omega arith) within.1 in record { rest = n.rest; is = rw (v.is, n.is) refl; later = n.later })
 line_is setup bytes (lines.Stop server) s within = tail_again setup bytes verbs.Stop (lines.Stop server) (Number server ∷ []) s (λ rest t. let v = server_again setup rest server [] t within in record { rest = v.rest; is = rw v.is refl; later = v.later })
 line_is setup bytes (lines.Restart server) s within = tail_again setup bytes verbs.Restart (lines.Restart server) (Number server ∷ []) s (λ rest t. let v = server_again setup rest server [] t within in record { rest = v.rest; is = rw v.is refl; later = v.later })
 line_is setup bytes (lines.Walk client path) s within = tail_again setup bytes verbs.Walk (lines.Walk client path) (Number client ∷ Raw path ∷ []) s (λ rest t. let c = client_again setup rest client (Raw path ∷ []) t within in let p = text_again (word_at c.rest) path [] c.later in record { rest = p.rest; is = ap (λ o. o >>= (λ client. word_at client.1 >>= (λ path. Some (lines.Walk client.0 path.0, path.1)))) c.is ∙ ap (λ o. o >>= (λ path. Some (lines.Walk client path.0, path.1))) p.is; later = p.later })
@@ -356,21 +366,30 @@ name_read bytes x found more later =
 
 -- a directory, and a name in it
 record Placed (bytes : List ℕ) (dir : ℕ) (name rest : List ℕ) : Type 0 where
-  within : IsDirectory dir
+  within : IsTrue (is_directory dir)
   read : Completes bytes (Number dir ∷ Named name ∷ []) rest
 
-directory_in : (dir : ℕ) → 1 ≤ dir → dir ≤ 2 ^ 48 - 1 → IsDirectory dir
-directory_in dir low high = (low, omega (arith, high))
+-- a directory
+record Directory (dir : ℕ) (bytes rest : List ℕ) : Type 0 where
+  within : IsTrue (is_directory dir)
+  read : Completes bytes (Number dir ∷ []) rest
+
+directory_read : (bytes : List ℕ) (x : ℕ × List ℕ) → directory_at bytes ≡ Some x → Directory x.0 bytes x.1
+unfolding directory_at
+directory_read bytes x found =
+    let n = step (number_at bytes) (λ n. cond (is_directory n.0) (Some n) None) x found in
+    let tests = cond_some (is_directory n.value.0) n.value x n.second in
+    subst (λ (x : ℕ × List ℕ). Directory x.0 bytes x.1) tests.1 (record { within = tests.0; read = number_read bytes n.value n.first })
 
 place_read : (bytes : List ℕ) (x : ℕ × List ℕ × List ℕ) → place_at bytes ≡ Some x → Placed bytes x.0 x.1 x.2
 unfolding place_at
 place_read bytes x found =
     let d = step (directory_at bytes) (λ dir. name_at dir.1 >>= (λ name. Some (dir.0, name.0, name.1))) x found in
     let n = step (name_at d.value.1) (λ name. Some (d.value.0, name.0, name.1)) x d.second in
-    let dir = within_read 1 (2 ^ 48 - 1) bytes d.value d.first in
+    let dir = directory_read bytes d.value d.first in
     let name = name_read d.value.1 n.value n.first in
     subst (λ (x : ℕ × List ℕ × List ℕ). Placed bytes x.0 x.1 x.2) (same_Some (d.value.0, n.value.0, n.value.1) x n.second)
-    (record { within = directory_in d.value.0 dir.low dir.high; read = λ more later. dir.read (Named n.value.0 ∷ more) (name more later) })
+    (record { within = dir.within; read = λ more later. dir.read (Named n.value.0 ∷ more) (name more later) })
 
 found_passes : {X : Type 0} (p : X → Bool) (xs : List X) (x : X) → find p xs ≡ Some x → p x ≡ true
 found_passes p [] x found = absurd cc
@@ -428,18 +447,18 @@ record CallFound (bytes : List ℕ) (call : Call) (rest : List ℕ) : Type 0 whe
   asked : IsAsked call
   read : AreSaid rest [] → AreSaid bytes (call_parts call)
 
-setattr_read : (text : List ℕ) (dir : ℕ) (name bytes : List ℕ) (x : Call × List ℕ) → IsDirectory dir → Completes text (Keyword (codes "setattr") ∷ Number dir ∷ Named name ∷ []) bytes → setattr_after dir name bytes ≡ Some x → CallFound text x.0 x.1
+setattr_read : (text : List ℕ) (dir : ℕ) (name bytes : List ℕ) (x : Call × List ℕ) → IsTrue (is_directory dir) → Completes text (Keyword (codes "setattr") ∷ Number dir ∷ Named name ∷ []) bytes → setattr_after dir name bytes ≡ Some x → CallFound text x.0 x.1
 unfolding setattr_after
 setattr_read text dir name bytes x within before found =
-    let m = step (number_within 0 4095 bytes) (λ mode. number_at mode.1 >>= (λ size. stamp_at size.1 >>= (λ stamp. Some (calls.Setattr dir name mode.0 size.0 stamp.0, stamp.1)))) x found in
+    let m = step (number_within 0 MODE_MOST bytes) (λ mode. number_at mode.1 >>= (λ size. stamp_at size.1 >>= (λ stamp. Some (calls.Setattr dir name mode.0 size.0 stamp.0, stamp.1)))) x found in
     let s = step (number_at m.value.1) (λ size. stamp_at size.1 >>= (λ stamp. Some (calls.Setattr dir name m.value.0 size.0 stamp.0, stamp.1))) x m.second in
     let t = step (stamp_at s.value.1) (λ stamp. Some (calls.Setattr dir name m.value.0 s.value.0 stamp.0, stamp.1)) x s.second in
-    let mode = within_read 0 4095 bytes m.value m.first in
+    let mode = within_read 0 MODE_MOST bytes m.value m.first in
     let size = number_read m.value.1 s.value s.first in
     let stamp = stamp_read s.value.1 t.value t.first in
     subst (λ (x : Call × List ℕ). CallFound text x.0 x.1) (same_Some (calls.Setattr dir name m.value.0 s.value.0 t.value.0, t.value.1) x t.second)
     (record {
-      asked = (within, mode.high, stamp.within);
+      asked = record { verb = refl; made = and_from (is_directory dir) (nat_le m.value.0 MODE_MOST) within (le-leb m.value.0 MODE_MOST mode.high); stamp = stamp.within };
       read = λ end. before (Number m.value.0 ∷ Number s.value.0 ∷ stamp_parts t.value.0) (mode.read (Number s.value.0 ∷ stamp_parts t.value.0) (size (stamp_parts t.value.0) (stamp.read end)));
     })
 
@@ -449,31 +468,31 @@ after_read asked.Create text bytes x before found =
     let p = step (place_at bytes) (λ place. Some (calls.Create place.0 place.1, place.2)) x found in
     let place = place_read bytes p.value p.first in
     subst (λ (x : Call × List ℕ). CallFound text x.0 x.1) (same_Some (calls.Create p.value.0 p.value.1, p.value.2) x p.second)
-    (record { asked = place.within; read = λ end. before (Number p.value.0 ∷ Named p.value.1 ∷ []) (place.read [] end) })
+    (record { asked = record { verb = refl; made = place.within; stamp = tt }; read = λ end. before (Number p.value.0 ∷ Named p.value.1 ∷ []) (place.read [] end) })
 after_read asked.Mkdir text bytes x before found =
     let p = step (place_at bytes) (λ place. Some (calls.Mkdir place.0 place.1, place.2)) x found in
     let place = place_read bytes p.value p.first in
     subst (λ (x : Call × List ℕ). CallFound text x.0 x.1) (same_Some (calls.Mkdir p.value.0 p.value.1, p.value.2) x p.second)
-    (record { asked = place.within; read = λ end. before (Number p.value.0 ∷ Named p.value.1 ∷ []) (place.read [] end) })
+    (record { asked = record { verb = refl; made = place.within; stamp = tt }; read = λ end. before (Number p.value.0 ∷ Named p.value.1 ∷ []) (place.read [] end) })
 after_read asked.Remove text bytes x before found =
     let p = step (place_at bytes) (λ place. Some (calls.Remove place.0 place.1, place.2)) x found in
     let place = place_read bytes p.value p.first in
     subst (λ (x : Call × List ℕ). CallFound text x.0 x.1) (same_Some (calls.Remove p.value.0 p.value.1, p.value.2) x p.second)
-    (record { asked = place.within; read = λ end. before (Number p.value.0 ∷ Named p.value.1 ∷ []) (place.read [] end) })
+    (record { asked = record { verb = refl; made = place.within; stamp = tt }; read = λ end. before (Number p.value.0 ∷ Named p.value.1 ∷ []) (place.read [] end) })
 after_read asked.Lookup text bytes x before found =
     let p = step (place_at bytes) (λ place. Some (calls.Lookup place.0 place.1, place.2)) x found in
     let place = place_read bytes p.value p.first in
     subst (λ (x : Call × List ℕ). CallFound text x.0 x.1) (same_Some (calls.Lookup p.value.0 p.value.1, p.value.2) x p.second)
-    (record { asked = place.within; read = λ end. before (Number p.value.0 ∷ Named p.value.1 ∷ []) (place.read [] end) })
+    (record { asked = record { verb = refl; made = place.within; stamp = tt }; read = λ end. before (Number p.value.0 ∷ Named p.value.1 ∷ []) (place.read [] end) })
 after_read asked.Setattr text bytes x before found =
     let p = step (place_at bytes) (λ place. setattr_after place.0 place.1 place.2) x found in
     let place = place_read bytes p.value p.first in
     setattr_read text p.value.0 p.value.1 p.value.2 x place.within (λ more later. before (Number p.value.0 ∷ Named p.value.1 ∷ more) (place.read more later)) p.second
 after_read asked.Scan text bytes x before found =
     let d = step (directory_at bytes) (λ dir. Some (calls.Scan dir.0, dir.1)) x found in
-    let dir = within_read 1 (2 ^ 48 - 1) bytes d.value d.first in
+    let dir = directory_read bytes d.value d.first in
     subst (λ (x : Call × List ℕ). CallFound text x.0 x.1) (same_Some (calls.Scan d.value.0, d.value.1) x d.second)
-    (record { asked = directory_in d.value.0 dir.low dir.high; read = λ end. before (Number d.value.0 ∷ []) (dir.read [] end) })
+    (record { asked = record { verb = refl; made = dir.within; stamp = tt }; read = λ end. before (Number d.value.0 ∷ []) (dir.read [] end) })
 
 call_read : (bytes : List ℕ) (x : Call × List ℕ) → call_at bytes ≡ Some x → CallFound bytes x.0 x.1
 unfolding call_at
@@ -541,11 +560,11 @@ Finds setup text x = LineFound setup text x.0 x.1
 batch_found : (setup : Setup) (text bytes : List ℕ) (x : Line × List ℕ) → Completes text (Keyword (codes "batch") ∷ []) bytes → batch_line setup bytes ≡ Some x → Finds setup text x
 unfolding batch_line
 batch_found setup text bytes x before found =
-    let s = step (server_at setup bytes) (λ server. numbers_at 64 server.1 >>= (λ places. cond (nat_le 1 (length places.0)) (Some (lines.Batch server.0 places.0, places.1)) None)) x found in
-    let n = step (numbers_at 64 s.value.1) (λ places. cond (nat_le 1 (length places.0)) (Some (lines.Batch s.value.0 places.0, places.1)) None) x s.second in
+    let s = step (server_at setup bytes) (λ server. numbers_at BATCH_MOST server.1 >>= (λ places. cond (nat_le 1 (length places.0)) (Some (lines.Batch server.0 places.0, places.1)) None)) x found in
+    let n = step (numbers_at BATCH_MOST s.value.1) (λ places. cond (nat_le 1 (length places.0)) (Some (lines.Batch s.value.0 places.0, places.1)) None) x s.second in
     let tests = cond_some (nat_le 1 (length n.value.0)) (lines.Batch s.value.0 n.value.0, n.value.1) x n.second in
     let server = server_read setup bytes s.value s.first in
-    let places = numbers_read 64 s.value.1 n.value n.first in
+    let places = numbers_read BATCH_MOST s.value.1 n.value n.first in
     subst (Finds setup text) tests.1
     (record {
       within = (server.below, leb-true 1 (length n.value.0) tests.0, places.few);
@@ -588,15 +607,15 @@ after_found setup verbs.Remind text bytes x before found =
     subst (Finds setup text) (same_Some (lines.Remind s.value.0, s.value.1) x s.second)
     (record { within = server.below; read = λ end. before (Number s.value.0 ∷ []) (server.read [] end) })
 after_found setup verbs.Tick text bytes x before found =
-    let n = step (number_within 1 (2 ^ 32) bytes) (λ by. Some (lines.Tick by.0, by.1)) x found in
-    let by = within_read 1 (2 ^ 32) bytes n.value n.first in
+    let n = step (number_within 1 TICK_MOST bytes) (λ by. Some (lines.Tick by.0, by.1)) x found in
+    let by = within_read 1 TICK_MOST bytes n.value n.first in
     subst (Finds setup text) (same_Some (lines.Tick n.value.0, n.value.1) x n.second)
     (record { within = (by.low, by.high); read = λ end. before (Number n.value.0 ∷ []) (by.read [] end) })
 after_found setup verbs.Fuse text bytes x before found =
-    let s = step (server_at setup bytes) (λ server. number_within 0 (2 ^ 32) server.1 >>= (λ calls. Some (lines.Fuse server.0 calls.0, calls.1))) x found in
-    let n = step (number_within 0 (2 ^ 32) s.value.1) (λ calls. Some (lines.Fuse s.value.0 calls.0, calls.1)) x s.second in
+    let s = step (server_at setup bytes) (λ server. number_within 0 FUSE_MOST server.1 >>= (λ calls. Some (lines.Fuse server.0 calls.0, calls.1))) x found in
+    let n = step (number_within 0 FUSE_MOST s.value.1) (λ calls. Some (lines.Fuse s.value.0 calls.0, calls.1)) x s.second in
     let server = server_read setup bytes s.value s.first in
-    let calls = within_read 0 (2 ^ 32) s.value.1 n.value n.first in
+    let calls = within_read 0 FUSE_MOST s.value.1 n.value n.first in
     subst (Finds setup text) (same_Some (lines.Fuse s.value.0 n.value.0, n.value.1) x n.second)
     (record { within = (server.below, calls.high); read = λ end. before (Number s.value.0 ∷ Number n.value.0 ∷ []) (server.read (Number n.value.0 ∷ []) (calls.read [] end)) })
 after_found setup verbs.Stop text bytes x before found =

@@ -1,10 +1,13 @@
 -- The lines of a script: which bytes say which line. It knows no reader.
-use Rattle.std.specs.Prelude.{◌≡◌, ◌⊎◌, ℕ, ◌<◌, ◌≤◌, ◌^◌, List, [], ◌∷◌, Option, Some, None, MatchOption, codes, decimal, IsTrue, length, slice_index}
+use Rattle.std.specs.Prelude.{◌≡◌, ◌⊎◌, ℕ, ◌<◌, ◌≤◌, ◌^◌, List, [], ◌∷◌, Option, Some, None, MatchOption, Bool, true, false, codes, decimal, IsTrue, length, slice_index}
+use Rattle.std.specs.List.{list_any}
 use Rattle.std.specs.Str.Parse.{AllDigits, digits_value}
+use Rattle.mds_base.specs.declared.limits.TheConstants.{BATCH_MOST, TICK_MOST, FUSE_MOST}
 use Rattle.mds_base.specs.declared.call.Call.{Call}
 use Rattle.mds_base.specs.declared.call.Call.TheVariants.{Create, Mkdir, Remove, Lookup, Setattr, Scan, Grab, Load, Link, Seal, Unseal, Kill, Unlink}
 use Rattle.mds_base.specs.declared.attr.Stamp.{Stamp}
 use Rattle.mds_base.specs.declared.setup.Setup.{Setup}
+use Rattle.mds_base.specs.Calls.{is_directory, is_well_made}
 use Rattle.mds_base.specs.Name.{is_name}
 use Rattle.script.specs.Names.{SpellsName}
 use Rattle.script.specs.Words.{word_at, rest_at}
@@ -94,6 +97,17 @@ line_parts (lines.Rmdir client dir name) = Keyword (codes "rmdir") ∷ Number cl
 line_parts (lines.Feed server) = Keyword (codes "feed") ∷ Number server ∷ []
 line_parts (lines.Promote server) = Keyword (codes "promote") ∷ Number server ∷ []
 
+-- a name, a word or a rest, whose bytes are kept
+abbrev pub is_kept : Part → Bool
+is_kept (Keyword text) = false
+is_kept (Number number) = false
+is_kept part = true
+
+-- whether a line keeps bytes or places, for which it wants memory
+abbrev pub keeps : Line → Bool
+keeps (lines.Batch server places) = true
+keeps line = list_any is_kept (line_parts line)
+
 -- a word that is a number, digit by digit; its value is `digits_value 10 word`
 pub record IsNumeral (word : List ℕ) : Type 0 where
   pub digits : AllDigits 10 word
@@ -103,10 +117,6 @@ pub record IsNumeral (word : List ℕ) : Type 0 where
   pub fits : digits_value 10 word < 2 ^ 64
 
 -- ---- ranges
-
--- a directory number
-abbrev pub IsDirectory : ℕ → Type 0
-IsDirectory dir = (1 ≤ dir) × (dir < 2 ^ 48)
 
 -- a client of this setup
 abbrev pub IsClient : Setup → ℕ → Type 0
@@ -121,21 +131,26 @@ abbrev pub IsStamp : Option Stamp → Type 0
 IsStamp None = Unit {0}
 IsStamp (Some stamp) = stamp.owner < 2 ^ 32
 
--- a call that a line may ask for
-abbrev pub IsAsked : Call → Type 0
-IsAsked (Create dir name) = IsDirectory dir
-IsAsked (Mkdir dir name) = IsDirectory dir
-IsAsked (Remove dir name) = IsDirectory dir
-IsAsked (Lookup dir name) = IsDirectory dir
-IsAsked (Setattr dir name mode size stamp) = IsDirectory dir × (mode ≤ 4095) × IsStamp stamp
-IsAsked (Scan dir) = IsDirectory dir
-IsAsked (Grab dir name count) = ⊥
-IsAsked (Load dir rows) = ⊥
-IsAsked (Link dir name id) = ⊥
-IsAsked (Seal dir part epoch) = ⊥
-IsAsked (Unseal dir part epoch) = ⊥
-IsAsked (Kill dir epoch) = ⊥
-IsAsked (Unlink dir name id) = ⊥
+-- the calls that a line may ask for
+abbrev pub has_verb : Call → Bool
+has_verb (Create dir name) = true
+has_verb (Mkdir dir name) = true
+has_verb (Remove dir name) = true
+has_verb (Lookup dir name) = true
+has_verb (Setattr dir name mode size stamp) = true
+has_verb (Scan dir) = true
+has_verb call = false
+
+-- the stamp that a call sets
+abbrev pub stamp_set : Call → Option Stamp
+stamp_set (Setattr dir name mode size stamp) = stamp
+stamp_set call = None
+
+-- one of these calls, well made
+pub record IsAsked (call : Call) : Type 0 where
+  pub verb : IsTrue (has_verb call)
+  pub made : IsTrue (is_well_made call)
+  pub stamp : IsStamp (stamp_set call)
 
 -- the numbers of the line are in their ranges
 abbrev pub IsWithin : Setup → Line → Type 0
@@ -144,17 +159,17 @@ IsWithin setup (lines.Call client call) = IsClient setup client × IsAsked call
 IsWithin setup (lines.Issue client call) = IsClient setup client × IsAsked call
 IsWithin setup (lines.Retry client) = IsClient setup client
 IsWithin setup (lines.Deliver place) = Unit {0}
-IsWithin setup (lines.Batch server places) = IsServer setup server × (1 ≤ length places) × (length places ≤ 64)
+IsWithin setup (lines.Batch server places) = IsServer setup server × (1 ≤ length places) × (length places ≤ BATCH_MOST)
 IsWithin setup (lines.Take client place) = IsClient setup client
 IsWithin setup lines.Settle = Unit {0}
 IsWithin setup (lines.Remind server) = IsServer setup server
-IsWithin setup (lines.Tick by) = (1 ≤ by) × (by ≤ 2 ^ 32)
-IsWithin setup (lines.Fuse server calls) = IsServer setup server × (calls ≤ 2 ^ 32)
+IsWithin setup (lines.Tick by) = (1 ≤ by) × (by ≤ TICK_MOST)
+IsWithin setup (lines.Fuse server calls) = IsServer setup server × (calls ≤ FUSE_MOST)
 IsWithin setup (lines.Stop server) = IsServer setup server
 IsWithin setup (lines.Restart server) = IsServer setup server
 IsWithin setup (lines.Walk client path) = IsClient setup client
-IsWithin setup (lines.Bulk client dir name json) = IsClient setup client × IsDirectory dir
-IsWithin setup (lines.Rmdir client dir name) = IsClient setup client × IsDirectory dir
+IsWithin setup (lines.Bulk client dir name json) = IsClient setup client × IsTrue (is_directory dir)
+IsWithin setup (lines.Rmdir client dir name) = IsClient setup client × IsTrue (is_directory dir)
 IsWithin setup (lines.Feed server) = IsServer setup server
 IsWithin setup (lines.Promote server) = IsServer setup server
 

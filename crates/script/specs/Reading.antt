@@ -1,9 +1,11 @@
 -- Reading from left to right: what the first bytes of bytes say and the bytes behind them, where they say it.
-use Rattle.std.specs.Prelude.{ℕ, zero, suc, length, is_some, not, ◌+◌, ◌*◌, ◌-◌, ◌^◌, List, [], ◌∷◌, Option, Some, None, Bool, nat_le, nat_lt, nat_eq, ◌==◌, ◌&&◌, if◌then◌else◌, codes, decimal}
+use Rattle.std.specs.Prelude.{ℕ, zero, suc, length, is_some, not, ◌+◌, ◌*◌, ◌-◌, ◌^◌, List, [], ◌∷◌, Option, Some, None, Bool, true, false, nat_le, nat_lt, nat_eq, ◌==◌, ◌&&◌, if◌then◌else◌, codes, decimal}
 use Rattle.std.specs.List.{find}
 use Rattle.std.specs.Cmp.Lexicographic.{pointwise}
 use Rattle.std.specs.Char.{digit_value}
 use Rattle.std.specs.Str.Parse.{digits_value}
+use Rattle.mds_base.specs.declared.limits.TheConstants.{MODE_MOST, BATCH_MOST, TICK_MOST, FUSE_MOST}
+use Rattle.mds_base.specs.Calls.{is_directory}
 use Rattle.mds_base.specs.Name.{is_name}
 use Rattle.mds_base.specs.declared.attr.Stamp.{Stamp}
 use Rattle.mds_base.specs.declared.call.Call.{Call}
@@ -87,6 +89,11 @@ each_verb = verbs.Call ∷ verbs.Issue ∷ verbs.Retry ∷ verbs.Deliver ∷ ver
 abbrev pub each_call_verb : List CallVerb
 each_call_verb = asked.Create ∷ asked.Mkdir ∷ asked.Remove ∷ asked.Lookup ∷ asked.Setattr ∷ asked.Scan ∷ []
 
+-- whether a call of this verb has a name
+abbrev pub is_named : CallVerb → Bool
+is_named asked.Scan = false
+is_named verb = true
+
 unfoldable pub verb_of : List ℕ → Option Verb
 verb_of word = find (λ verb. pointwise nat_eq (verb_text verb) word) each_verb
 
@@ -125,8 +132,10 @@ name_at bytes = do
 -- ---- a call
 
 -- a directory
-abbrev pub directory_at : List ℕ → Option (ℕ × List ℕ)
-directory_at bytes = number_within 1 (2 ^ 48 - 1) bytes
+unfoldable pub directory_at : List ℕ → Option (ℕ × List ℕ)
+directory_at bytes = do
+  number ← number_at bytes
+  if is_directory number.0 then Some number else None
 
 -- a directory and a name in it
 unfoldable pub place_at : List ℕ → Option (ℕ × List ℕ × List ℕ)
@@ -148,7 +157,7 @@ stamp_at bytes = if is_end bytes then Some (None, bytes) else stamp_here bytes
 
 unfoldable pub setattr_after : ℕ → List ℕ → List ℕ → Option (Call × List ℕ)
 setattr_after dir name bytes = do
-  mode ← number_within 0 4095 bytes
+  mode ← number_within 0 MODE_MOST bytes
   size ← number_at mode.1
   stamp ← stamp_at size.1
   Some (calls.Setattr dir name mode.0 size.0 stamp.0, stamp.1)
@@ -218,11 +227,11 @@ deliver_line bytes = do
   place ← number_at bytes
   Some (lines.Deliver place.0, place.1)
 
--- from 1 to 64 places
+-- from 1 to `BATCH_MOST` places
 unfoldable pub batch_line : Setup → List ℕ → Option (Line × List ℕ)
 batch_line setup bytes = do
   server ← server_at setup bytes
-  places ← numbers_at 64 server.1
+  places ← numbers_at BATCH_MOST server.1
   if nat_le 1 (length places.0) then Some (lines.Batch server.0 places.0, places.1) else None
 
 unfoldable pub take_line : Setup → List ℕ → Option (Line × List ℕ)
@@ -238,13 +247,13 @@ remind_line setup bytes = do
 
 unfoldable pub tick_line : List ℕ → Option (Line × List ℕ)
 tick_line bytes = do
-  by ← number_within 1 (2 ^ 32) bytes
+  by ← number_within 1 TICK_MOST bytes
   Some (lines.Tick by.0, by.1)
 
 unfoldable pub fuse_line : Setup → List ℕ → Option (Line × List ℕ)
 fuse_line setup bytes = do
   server ← server_at setup bytes
-  calls ← number_within 0 (2 ^ 32) server.1
+  calls ← number_within 0 FUSE_MOST server.1
   Some (lines.Fuse server.0 calls.0, calls.1)
 
 unfoldable pub stop_line : Setup → List ℕ → Option (Line × List ℕ)

@@ -1,109 +1,105 @@
 //! Reads a call, behind the client that is to make it.
-ghost use Rattle.std.specs.Prelude.{◌≡◌};
-ghost use Rattle.script.specs.Answers.{Gives};
-ghost use Rattle.script.specs.Reading.{stamp_here, stamp_at, setattr_after, call_after, call_at, asked_at};
+ghost use Rattle.std.specs.Prelude.{◌≡◌, IfSome, IsTrue};
+ghost use Rattle.std.specs.List.{list_any};
+ghost use Rattle.script.specs.Answers.{Finds, Gives, OnMemory};
+ghost use Rattle.script.specs.Grammar.{is_kept, call_parts};
+ghost use Rattle.script.specs.Reading.{is_named, stamp_here, stamp_at, setattr_after, call_after, call_at, asked_at};
 
-use crate::fault::LineFault;
-use crate::pieces::{client, directory, is_end, number, number_within, place, word};
+use crate::fault::{LineFault, Outside};
+use crate::unread::Unread;
 use crate::verb::{CallVerb, call_verb_of};
-use mds_base::{Call, Name, Setup, Stamp};
+use mds_base::{Call, MODE_MOST, Name, Setup, Stamp};
 use std::alloc::Global;
 
-/// The most that a mode may be.
-const LAST_MODE: u64 = 4095;
-
-/// The most that an owner's number may be.
-const LAST_OWNER: u64 = (1 << 32) - 1;
-
-/// A client and the call that it is to make.
+/// A client and the call that it is to make. There may be no memory only for a call that has a name.
 #[tactic(auto, unfolding(crate::specs::Reading::asked_at))]
-pub(crate) fn asked<'a>(
+pub(crate) fn asked(
     alloc: Global,
-    bytes: &'a [u8],
+    unread: &mut Unread<'_>,
     setup: &Setup,
-) -> Result<(u32, Call, &'a [u8]), LineFault>
-    ensures { Gives (λ x. (x.0, x.1, x.2.now)) result (asked_at setup.now bytes.now) }
+) -> Result<(u32, Call), LineFault>
+    ensures gives { Gives (λ x. (x.0, x.1, unread.new)) result (asked_at setup.now unread.old) }
+    ensures memory { OnMemory result (IfSome (asked_at setup.now unread.old) (λ x. IsTrue (list_any is_kept (call_parts x.1)))) }
 {
-    let (client, rest) = client(bytes, setup)?;
-    let (call, rest) = call(alloc, rest)?;
-    Ok((client, call, rest))
+    let client = unread.client(setup)?;
+    let call = call(alloc, unread)?;
+    Ok((client, call))
 }
 
 #[tactic(auto, unfolding(crate::specs::Reading::call_at))]
-fn call(alloc: Global, bytes: &[u8]) -> Result<(Call, &[u8]), LineFault>
-    ensures { Gives (λ x. (x.0, x.1.now)) result (call_at bytes.now) }
+fn call(alloc: Global, unread: &mut Unread<'_>) -> Result<Call, LineFault>
+    ensures gives { Gives (λ call. (call, unread.new)) result (call_at unread.old) }
+    ensures memory { OnMemory result (IfSome (call_at unread.old) (λ x. IsTrue (list_any is_kept (call_parts x.0)))) }
 {
-    let (word, rest) = word(bytes)?;
-    let Some(verb) = call_verb_of(word) else {
+    let Some(verb) = call_verb_of(unread.word()?) else {
         return Err(LineFault::NotALine);
     };
-    call_after(alloc, verb, rest)
+    call_after(alloc, verb, unread)
 }
 
-/// The call of this verb, and what is behind it.
+/// The call of this verb.
 #[tactic(auto, unfolding(crate::specs::Reading::call_after))]
-fn call_after(alloc: Global, verb: CallVerb, bytes: &[u8]) -> Result<(Call, &[u8]), LineFault>
-    ensures { Gives (λ x. (x.0, x.1.now)) result (call_after verb bytes.now) }
+fn call_after(alloc: Global, verb: CallVerb, unread: &mut Unread<'_>) -> Result<Call, LineFault>
+    ensures gives { Gives (λ call. (call, unread.new)) result (call_after verb unread.old) }
+    ensures memory { OnMemory result (IsTrue (is_named verb)) }
 {
     match verb {
         CallVerb::Create => {
-            let (dir, name, rest) = place(alloc, bytes)?;
-            Ok((Call::Create { dir, name }, rest))
+            let (dir, name) = unread.place(alloc)?;
+            Ok(Call::Create { dir, name })
         }
         CallVerb::Mkdir => {
-            let (dir, name, rest) = place(alloc, bytes)?;
-            Ok((Call::Mkdir { dir, name }, rest))
+            let (dir, name) = unread.place(alloc)?;
+            Ok(Call::Mkdir { dir, name })
         }
         CallVerb::Remove => {
-            let (dir, name, rest) = place(alloc, bytes)?;
-            Ok((Call::Remove { dir, name }, rest))
+            let (dir, name) = unread.place(alloc)?;
+            Ok(Call::Remove { dir, name })
         }
         CallVerb::Lookup => {
-            let (dir, name, rest) = place(alloc, bytes)?;
-            Ok((Call::Lookup { dir, name }, rest))
+            let (dir, name) = unread.place(alloc)?;
+            Ok(Call::Lookup { dir, name })
         }
         CallVerb::Setattr => {
-            let (dir, name, rest) = place(alloc, bytes)?;
-            setattr_after(dir, name, rest)
+            let (dir, name) = unread.place(alloc)?;
+            let call = setattr_after(dir, name, unread)?;
+            Ok(call)
         }
         CallVerb::Scan => {
-            let (dir, rest) = directory(bytes)?;
-            Ok((Call::Scan { dir }, rest))
+            let dir = unread.directory()?;
+            Ok(Call::Scan { dir })
         }
     }
 }
 
 /// What follows the name in a setattr.
 #[tactic(auto, unfolding(crate::specs::Reading::setattr_after))]
-fn setattr_after(dir: u64, name: Name, bytes: &[u8]) -> Result<(Call, &[u8]), LineFault>
-    ensures { Gives (λ x. (x.0, x.1.now)) result (setattr_after dir name bytes.now) }
+fn setattr_after(dir: u64, name: Name, unread: &mut Unread<'_>) -> Result<Call, Outside>
+    ensures { Finds (λ call. (call, unread.new)) result (setattr_after dir name unread.old) }
 {
-    let (mode, rest) = number_within(bytes, 0, LAST_MODE)?;
-    let (size, rest) = number(rest)?;
-    let (stamp, rest) = stamp(rest)?;
+    let mode = unread.number_within(0, u64::from(MODE_MOST))?;
+    let size = unread.number()?;
+    let stamp = stamp(unread)?;
     let mode = mode as u32;
-    Ok((
-        Call::Setattr {
-            dir,
-            name,
-            mode,
-            size,
-            stamp,
-        },
-        rest,
-    ))
+    Ok(Call::Setattr {
+        dir,
+        name,
+        mode,
+        size,
+        stamp,
+    })
 }
 
 /// A stamp, where a word is left.
 #[tactic(auto, unfolding(crate::specs::Reading::stamp_at, crate::specs::Reading::stamp_here))]
-fn stamp(bytes: &[u8]) -> Result<(Option<Stamp>, &[u8]), LineFault>
-    ensures { Gives (λ x. (x.0, x.1.now)) result (stamp_at bytes.now) }
+fn stamp(unread: &mut Unread<'_>) -> Result<Option<Stamp>, Outside>
+    ensures { Finds (λ stamp. (stamp, unread.new)) result (stamp_at unread.old) }
 {
-    if is_end(bytes) {
-        return Ok((None, bytes));
+    if unread.is_end() {
+        return Ok(None);
     }
-    let (owner, rest) = number_within(bytes, 0, LAST_OWNER)?;
-    let (mtime, rest) = number(rest)?;
+    let owner = unread.number_within(0, u64::from(u32::MAX))?;
+    let mtime = unread.number()?;
     let owner = owner as u32;
-    Ok((Some(Stamp { owner, mtime }), rest))
+    Ok(Some(Stamp { owner, mtime }))
 }

@@ -33,3 +33,18 @@ impl<T: Drop> From<AllocFailed<T>> for LineFault {
         LineFault::OutOfMemory
     }
 }
+
+/// The bytes are outside the grammar.
+#[derive(Debug, Drop)]
+pub(crate) struct Outside;
+
+impl From<Outside> for LineFault {
+    ghost use Rattle.std.specs.Prelude.{◌≡◌};
+    ghost use Rattle.script.specs.declared.fault.LineFault.TheVariants.{NotALine};
+
+    ghost from_gives = { λ _ e. e ≡ NotALine };
+
+    fn from(_: Outside) -> LineFault {
+        LineFault::NotALine
+    }
+}

@@ -21,13 +21,7 @@ impl Line {
             | Line::Fuse { .. }
             | Line::Stop { .. }
             | Line::Restart { .. } => true,
-            Line::Batch { .. }
-            | Line::Remind { .. }
-            | Line::Walk { .. }
-            | Line::Bulk { .. }
-            | Line::Rmdir { .. }
-            | Line::Feed { .. }
-            | Line::Promote { .. } => false,
+            _ => false,
         }
     }
 }
@@ -41,13 +35,6 @@ fn call_has_come(call: &Call) -> bool
         | Call::Remove { .. }
         | Call::Lookup { .. }
         | Call::Setattr { .. } => true,
-        Call::Scan { .. }
-        | Call::Grab { .. }
-        | Call::Load { .. }
-        | Call::Link { .. }
-        | Call::Seal { .. }
-        | Call::Unseal { .. }
-        | Call::Kill { .. }
-        | Call::Unlink { .. } => false,
+        _ => false,
     }
 }

@@ -2,7 +2,7 @@ use Rattle.std.proofs.Common.{take}
 use Rattle.std.specs.Fmt.{HasWritten, IsPlainFormatter}
 use Rattle.std.specs.List.{flat_map}
 use Rattle.script.specs.Text.{byte_text}
-use Rattle.interpreter.proofs.text.NameTextDisplay.fmt.Given as goal
+use Rattle.script.proofs.call_text.NameTextDisplay.fmt.Given as goal
 
 -- the bytes so far are written
 abbrev pub invariant-loop-byte : goal.invariant-loop-byte
