@@ -1,6 +1,7 @@
 ghost use Rattle.std.specs.Prelude.{◌≡◌, ℕ, ◌+◌, ◌<◌, ◌≤◌, ◌^◌, true, Some, MatchOption};
 ghost use Rattle.std.specs.Prelude.{slice_set};
 ghost use Rattle.std.specs.List.{slice_get};
+ghost use Rattle.mds_base.specs.declared.limits.TheConstants.{EVENTS, MOMENTS};
 ghost use Rattle.mds_out.specs.Fused.{Fused};
 ghost use Rattle.node_store.specs.Store.{Store};
 ghost use Rattle.world.specs.declared.event.Event.TheVariants as Event;
@@ -174,8 +175,8 @@ impl<D: Disk> Simulation<D> {
 
     /// Moves the moment on.
     pub fn tick(&mut self, by: u64)
-        requires room { self.old.count < 2 ^ 20 }
-        requires moment { self.old.moment + by < 2 ^ 43 }
+        requires room { self.old.count < EVENTS }
+        requires moment { self.old.moment + by < MOMENTS }
         ensures happens { Happens (seen_by D.seen) (images_by D.images) self.old self.new (Event.Tick by) }
         ensures after { self.new ≡ record self.old { moment = self.old.moment + by; count = self.old.count + 1 } }
     {
