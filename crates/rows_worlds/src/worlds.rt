@@ -69,10 +69,7 @@ fn is_right(
     setup: Setup,
     counts: &mut Counts,
 ) -> Result<bool, RowFault> {
-    if setup.servers < 1 || 32 < setup.servers || setup.clients < 1 || 64 < setup.clients {
-        return Err(RowFault::Refused);
-    }
-    if 1_000_000 < setup.lease {
+    if !setup.is_fit() {
         return Err(RowFault::Refused);
     }
     let mut dice = Dice { state: seed };

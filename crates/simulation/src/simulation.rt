@@ -16,6 +16,7 @@ use crate::made::{Kind, Made};
 use crate::places::Places;
 use crate::waiting::{is_to, server_of};
 use client_core::Client;
+use mds_base::limits::{SERVE_DIRECTORIES, SERVER_DIRECTORIES};
 use mds_base::Setup;
 use mds_out::{Disk, Fuse};
 use node_store::NodeStore;
@@ -126,7 +127,7 @@ impl<D: Disk> Simulation<D> {
         ensures { result ≡ shown.has_numbers_at self.now server }
     {
         let next = self.stores[server as usize].next_id();
-        next <= (u64::from(server) + 1) * (1 << 40) - (1 << 18)
+        next <= (u64::from(server) + 1) * SERVER_DIRECTORIES - SERVE_DIRECTORIES
     }
 
     /// The server of the message at a place, where one was sent that is for a server: it is one that is there.

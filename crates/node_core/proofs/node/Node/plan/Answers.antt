@@ -1,4 +1,4 @@
-use Rattle.std.proofs.Common.{◌≡◌, ◌∙◌, sym, ap, subst, refl, Option, None}
+use Rattle.std.proofs.Common.{◌∙◌, sym, ap, subst, refl, Option, None}
 use Rattle.std.specs.Prelude.{IfOk}
 use Rattle.mds_base.specs.declared.ask.Ask.{Ask}
 use Rattle.node_core.specs.Nodes.{StoreV}

@@ -1,4 +1,4 @@
-use Rattle.std.proofs.Common.{◌≡◌, ◌∙◌, sym, ap, subst, ℕ, ◌<◌}
+use Rattle.std.proofs.Common.{◌∙◌, sym, ap, subst, ℕ, ◌<◌}
 use Rattle.mds_base.specs.declared.limits.TheConstants.{DIRECTORIES}
 use Rattle.node_core.specs.Nodes.{StoreV}
 use Rattle.node_core.proofs.Calls.{dir_of_change, dir_of_look}

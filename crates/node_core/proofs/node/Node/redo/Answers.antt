@@ -1,4 +1,4 @@
-use Rattle.std.proofs.Common.{◌≡◌, sym, subst, ℕ, ◌<◌}
+use Rattle.std.proofs.Common.{sym, subst, ℕ, ◌<◌}
 use Rattle.mds_base.specs.declared.limits.TheConstants.{DIRECTORIES}
 use Rattle.node_core.specs.Nodes.{StoreV}
 use Rattle.node_core.proofs.Calls.{dir_of_change}
@@ -6,7 +6,7 @@ use Rattle.node_core.proofs.Replayed.{not_look, not_change}
 use Rattle.node_core.proofs.node.Node.redo.Goals as goal
 
 pub redo_at-requires-clause-fits : goal.redo_at-requires-clause-fits
-redo_at-requires-clause-fits g c = subst (λ (d : ℕ). d < DIRECTORIES) (dir_of_change c.args.call.now c.in-Change.dir c.in-Change.name.now (sym c.in-Change.ensures)) c.requires
+redo_at-requires-clause-fits g c = subst (λ (d : ℕ). d < DIRECTORIES) (dir_of_change c.args.call.now c.in-Change.dir c.in-Change.name.now (sym c.in-Change.ensures)) c.requires.fits
 
 pub returns-in-Look-clause-ok : goal.returns-in-Look-clause-ok
 returns-in-Look-clause-ok g c =
