@@ -1,10 +1,8 @@
 -- The calls that are served, by cases: what is shown of each of these holds of each call that asks for something.
-use Rattle.std.proofs.Common.{◌≡◌, ◌∙◌, sym, ap, subst, refl, ℕ, ◌<◌, ◌&&◌, Bool, true, false, List, length, Option}
+use Rattle.std.proofs.Common.{◌≡◌, subst, refl, ℕ, ◌<◌, Bool, true, false, List, length, Option}
 use Rattle.std.specs.Prelude.{nat_le, nat_lt}
-use Rattle.std.proofs.lemmas.Bool.{and_parts, leb-true}
-use Rattle.std.proofs.lemmas.Bool.Decides.{nat_tests}
-use Rattle.mds_base.specs.declared.TheConstants.{RADIX}
-use Rattle.mds_base.specs.declared.limits.TheConstants.{DIRECTORIES, EPOCHS, MODE_MOST, GRAB_MOST, LOAD_MOST}
+use Rattle.std.proofs.lemmas.Bool.{and_parts, ltb-true}
+use Rattle.mds_base.specs.declared.limits.TheConstants.{DIRECTORIES, EPOCHS, GRAB_MOST, LOAD_MOST}
 use Rattle.mds_base.specs.declared.attr.Stamp.{Stamp}
 use Rattle.mds_base.specs.declared.call.Call.{Call}
 use Rattle.mds_base.specs.declared.call.Call.TheVariants.{Create, Mkdir, Remove, Lookup, Setattr, Scan, Grab, Load, Link, Seal, Unseal, Kill, Unlink}
@@ -95,7 +93,7 @@ pub dir_of_look : (call : Call) (dir : ℕ) (name : List ℕ) → asked_of call 
 dir_of_look call dir name e = look_on (is_served call) (call_on call) dir name e
 
 directory_fits : (dir : ℕ) → is_directory dir ≡ true → dir < DIRECTORIES
-directory_fits dir e = grind (arith, nat_tests)
+directory_fits dir e = ltb-true dir DIRECTORIES (and_parts (nat_le 1 dir) (nat_lt dir DIRECTORIES) e).1
 
 -- a call that is well made is on a directory whose number is within its range
 pub well_made_fits : (call : Call) → is_well_made call ≡ true → dir_of call < DIRECTORIES

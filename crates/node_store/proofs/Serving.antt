@@ -3,9 +3,8 @@ use Rattle.std.proofs.Common.{◌≡◌, ◌∙◌, sym, ap, subst, refl, ℕ, �
 use Rattle.std.specs.Cmp.{eq_by_cmp_equiv}
 use Rattle.std.specs.FinMap as map
 use Rattle.std.specs.List.{AllByRecursion}
-use Rattle.std.proofs.lemmas.Bool.{and_from, and_parts, eq-eqb, leb-true}
-use Rattle.std.proofs.lemmas.Bool.Decides.{nat_tests}
-use Rattle.std.specs.Prelude.{nat_le}
+use Rattle.std.proofs.lemmas.Bool.{and_from, and_parts, eq-eqb, leb-true, ltb-true}
+use Rattle.std.specs.Prelude.{nat_le, nat_lt}
 use Rattle.mds_base.specs.declared.ask.Ask.{Ask}
 use Rattle.mds_base.specs.declared.limits.TheConstants.{DIRECTORIES, MODE_MOST, SERVERS_MOST, SERVE_DIRECTORIES}
 use Rattle.mds_base.specs.declared.attr.Attr.{Attr}
@@ -102,7 +101,7 @@ numbered_at next before is =
 -- ---- a change that is carried out is recorded by a record that may follow
 
 a_directory : (dir : ℕ) → is_directory dir ≡ true → IsDirectory dir
-a_directory dir e = (grind (arith, nat_tests), grind (arith, nat_tests))
+a_directory dir e = let both = and_parts (nat_le 1 dir) (nat_lt dir DIRECTORIES) e in (leb-true 1 dir both.0, ltb-true dir DIRECTORIES both.1)
 
 a_setattr : (dir : ℕ) (name : List ℕ) (mode size : ℕ) (stamp : Option Stamp) → IsWellMade (Setattr dir name mode size stamp) → IsChange (Setattr dir name mode size stamp)
 a_setattr dir name mode size stamp is =

@@ -91,7 +91,7 @@ opened_told (Some bytes) server setup new opened = (opened.0, opened.1, ap (λ (
 -- calls that change nothing, and one more
 pub reads_on : {D T U : Type 0} {seen : D → Contents} {sizes : D → Lengths} {images : D → Image → Type 0} {moment : D → ℕ} {since : D → ℕ → Image → Type 0} {faults changes : D → ℕ} {lasts fails : D → D → Type 0}
     {a b c : D} {x : T} {y : U} → ((a b c : D) → lasts a b → lasts b c → lasts a c) → IsStoreReading seen sizes images moment since faults changes lasts fails a b (Ok x)
-    → IsStoreReading seen sizes images moment since faults changes lasts fails b c (Ok y) → IsStoreReading seen sizes images moment since faults changes lasts fails a c (Ok tt)
+    → IsStoreReading seen sizes images moment since faults changes lasts fails b c (Ok y) → IsStoreReading {T = Unit {0}} seen sizes images moment since faults changes lasts fails a c (Ok tt)
 reads_on {seen = seen} {sizes = sizes} {images = images} {moment = moment} {since = since} {faults = faults} {a = a} {b = b} {c = c} lasts_on first second = record {
   unchanged = unchanged_twice (seen a) (seen b) (seen c) (sizes a) (sizes b) (sizes c) first.unchanged second.unchanged;
   crash = same_twice (images a) (images b) (images c) first.crash second.crash;
