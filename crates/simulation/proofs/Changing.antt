@@ -12,9 +12,8 @@ use Rattle.mds_out.specs.Fault.{Rose}
 use Rattle.records.specs.declared.msg.Msg.{Msg}
 use Rattle.client_core.specs.Clients.{ClientV}
 use Rattle.node_core.specs.Nodes.{StoreV}
-use Rattle.node_core.specs.Rules.{Outcome, Silent, Looks, Repeats, Carries, outcome}
-use Rattle.node_core.specs.Serving.{serve, served_as}
-use Rattle.node_store.specs.Serve.{IsMessage}
+use Rattle.node_core.specs.Rules.{Outcome, Silent, Looks, Repeats, Carries, outcome, request_in}
+use Rattle.node_core.specs.Serving.{serve, serve_request, served_as}
 use Rattle.node_store.specs.Store.{Store, IsDownAt}
 use Rattle.world.specs.declared.event.Event.TheVariants.{Miss}
 use Rattle.mds_base.specs.Lists.{Each}

@@ -1,12 +1,12 @@
 -- Events keep the ranges of a world's numbers.
-use Rattle.std.proofs.Common.{◌≡◌, ◌∙◌, sym, ap, subst, refl, ℕ, suc, ◌+◌, ◌-◌, ◌<◌, ◌&&◌, not, Bool, true, false, List, [], ◌∷◌, ◌++◌, get_or, Option, Some, None, arith, append_assoc}
-use Rattle.std.specs.Prelude.{slice_set}
+use Rattle.std.proofs.Common.{◌≡◌, ◌∙◌, sym, ap, subst, refl, ℕ, suc, ◌+◌, ◌-◌, ◌<◌, ◌&&◌, not, Bool, true, false, List, [], ◌∷◌, ◌++◌, get_or, Option, Some, None, Result, Ok, Err, OnOk, OnErr, arith, append_assoc}
+use Rattle.std.specs.Prelude.{slice_set, nat_lt}
 use Rattle.std.specs.Prelude.{map as list_map}
 use Rattle.std.specs.List.{slice_get, range_with_len}
-use Rattle.std.proofs.lemmas.Bool.{and_parts}
+use Rattle.std.proofs.lemmas.Bool.{and_parts, ltb-true}
 use Rattle.std.proofs.lemmas.List.{append-nil}
 use Rattle.std.proofs.lemmas.List.FromFn.{map-range_with_len_more}
-use Rattle.mds_base.specs.declared.limits.TheConstants.{DIRECTORIES, MOMENTS}
+use Rattle.mds_base.specs.declared.limits.TheConstants.{CALLS, DIRECTORIES, MOMENTS}
 use Rattle.mds_base.specs.declared.setup.Setup.{Setup}
 use Rattle.mds_base.specs.declared.ask.Ask.{Ask}
 use Rattle.mds_base.specs.declared.call.Call.{Call}
@@ -17,7 +17,8 @@ use Rattle.node_core.specs.Rules.{Outcome, Silent, Looks, Repeats, Carries, outc
 use Rattle.node_core.specs.Serving.{serve, serve_request, served_as}
 use Rattle.node_core.specs.Ranges.{RequestFits, DirFits, RecordFits}
 use Rattle.client_core.specs.declared.client.Pending.{Pending}
-use Rattle.client_core.specs.Clients.{ClientV, issued, issue_msg, SendsAgain}
+use Rattle.bitmap.specs.Bits.{Bits}
+use Rattle.client_core.specs.Clients.{ClientV, issued, issue_msg, merged, SendsAgain}
 use Rattle.mds_base.specs.Calls.{dir_of, is_well_made}
 use Rattle.client_core.specs.Taking.{take, take_at, answered_if, busy_if, held_if, redirected_if}
 use Rattle.client_core.specs.Taking as taking
@@ -31,7 +32,7 @@ use Rattle.world.specs.Events.{is_call, is_open, seat_at, is_for_server, can_iss
 use Rattle.mds_base.proofs.Grow.{each_push, each_set}
 use Rattle.node_core.proofs.Calls.{well_made_fits}
 use Rattle.world.proofs.Starts.{ranged}
-use Rattle.world.proofs.Stepped.{item_is, seat_place}
+use Rattle.world.proofs.Stepped.{item_is, seat_is, seat_place}
 
 -- Directories
 
@@ -159,6 +160,15 @@ issue_fits : (o : Option ClientState) (call : Call) → can_issue o call ≡ tru
 issue_fits None call can = cc
 issue_fits (Some seat) call can = call_fits call (and_parts _ (is_call call) (and_parts (not seat.quit && not (is_open seat.client.pending)) _ can).1).1
 
+pub issued_dir : (o : Option ClientState) (call call' : Call) → can_issue o call ≡ true → call' ≡ call → dir_of call' < DIRECTORIES
+issued_dir o call call' can call_is = subst (λ (x : Call). dir_of x < DIRECTORIES) (sym call_is) (issue_fits o call can)
+
+pub issued_room : (i w : WorldV) → i ≡ w → (client : ℕ) (seat : ClientState) → seat ≡ get_or i.clients (client - 1) seat → (call : Call) → can_issue (seat_at w.clients client) call ≡ true → seat.client.seq < CALLS
+issued_room i w same client seat read call can =
+    let can' : can_issue (seat_at i.clients client) call ≡ true = subst (λ (x : WorldV). can_issue (seat_at x.clients client) call ≡ true) (sym same) can in
+    let here : can_issue (Some seat) call ≡ true = sym (ap (λ o. can_issue o call) (seat_is (λ o. can_issue o call) refl i.clients client can' seat read)) ∙ can' in
+    ltb-true seat.client.seq CALLS (and_parts (nat_lt seat.client.seq CALLS) (is_call call) (and_parts (not seat.quit && not (is_open seat.client.pending)) _ here).1).0
+
 sends_fit : (client new : ClientV) (msg : Msg) (p : Option Pending) → SendsAgain client new msg p → PendingFits p → PendingFits new.pending × DirFits msg
 sends_fit client new msg None sends fits = absurd sends
 sends_fit client new msg (Some pending) sends fits = (subst (λ (x : ClientV). PendingFits x.pending) (sym sends.1) fits, subst DirFits (sym sends.0) fits)
@@ -190,6 +200,10 @@ module _ (i w : WorldV) (same : i ≡ w) (ranges : AreRanges i.setup i.now i.ser
         let fits = sends_fit seat.client new msg seat.client.pending sends (seat_fits can_resend refl can) in
         subst (λ xs. AreRanges i.setup i.now i.servers (slice_set i.clients (client - 1) (record { client = new; quit = seat.quit })) xs) (sym sent_is)
         (with_msg (with_seat ranges (client - 1) (record { client = new; quit = seat.quit }) fits.0) msg fits.1)
+
+    pub hinted_fits : {T E : Type 0} → can_take (seat_at w.clients client) ≡ true → (dir : ℕ) (bits : Bits) (result : Result T E) (new : ClientV) → OnOk result (new ≡ merged seat.client dir bits) → OnErr result (new ≡ seat.client) → PendingFits new.pending
+    hinted_fits can dir bits (Ok x) new ok err = subst (λ (x : ClientV). PendingFits x.pending) (sym ok) (seat_fits can_take refl can)
+    hinted_fits can dir bits (Err e) new ok err = subst (λ (x : ClientV). PendingFits x.pending) (sym err) (seat_fits can_take refl can)
 
     pub taken_fits : can_take (seat_at w.clients client) ≡ true → (msg : Msg) (new : ClientV) → new ≡ (take seat.client msg).client → PendingFits new.pending
     taken_fits can msg new new_is = subst (λ (x : ClientV). PendingFits x.pending) (sym new_is) (take_fits seat.client msg (seat_fits can_take refl can))
