@@ -2,11 +2,11 @@
 ghost use Rattle.std.specs.Prelude.{◌≡◌, ◌<◌, true};
 ghost use Rattle.world.specs.Events.{enabled};
 
-use row_words::{Answer, RowFault, Words};
 use crate::history::{Effect, History, Issued};
 use bitmap::Bitmap;
 use mds_base::{Call, Name, NameFault, PlaceList, Reply, Setup, Stamp};
 use records::{Msg, Record};
+use row_words::{Answer, RowFault, Words};
 use std::alloc::{AllocError, Global};
 use world::{Event, ServeEnd, StopCause, World};
 

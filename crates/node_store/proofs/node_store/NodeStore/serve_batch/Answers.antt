@@ -21,12 +21,12 @@ pub returns-clause-any_moment : goal.returns-clause-any_moment
 returns-clause-any_moment g c = λ msg store one up.
     subst
     (λ (m : Msg). OnTold (g.D.Disk.seen c.args.self.now.disk 1)
-        (λ _. LeavesOnly g.D.Disk.moment g.D.Disk.images_since c.args.self.now.disk c.serve.new.self.disk (StandsForEither c.args.self.now.server c.args.self.now.setup store (serve store m c.args.now).store)))
+    (λ _. LeavesOnly g.D.Disk.moment g.D.Disk.images_since c.args.self.now.disk c.serve.new.self.disk (StandsForEither c.args.self.now.server c.args.self.now.setup store (serve store m c.args.now).store)))
     (c.one_of-msg.ensures msg one) (c.serve.ensures.any_moment store up)
 
 pub returns-clause-refused : goal.returns-clause-refused
 returns-clause-refused g c =
     on_err_weaker c.serve.result
     (λ refused msg store one up.
-        subst (λ (m : Msg). (c.serve.new.self ≡ c.args.self.now) ⊎ HasStopped g.D.Disk.seen g.D.Disk.images c.serve.new.self store (serve store m c.args.now).records) (c.one_of-msg.ensures msg one) (refused store up))
+    subst (λ (m : Msg). (c.serve.new.self ≡ c.args.self.now) ⊎ HasStopped g.D.Disk.seen g.D.Disk.images c.serve.new.self store (serve store m c.args.now).records) (c.one_of-msg.ensures msg one) (refused store up))
     c.serve.ensures.refused
