@@ -1,8 +1,9 @@
 -- A client, as a value: its number, the calls that it numbered so far, its open call, and a bitmap for each directory.
-use Rattle.std.specs.Prelude.{◌≡◌, ℕ, ◌+◌, ◌^◌, ◌<◌, List, Option, Some, None, unwrap_or}
+use Rattle.std.specs.Prelude.{◌≡◌, ℕ, ◌+◌, ◌<◌, List, Option, Some, None, unwrap_or}
 use Rattle.std.specs.Ordering.{nat_cmp}
 use Rattle.std.specs.FinMap as map
 use Rattle.std.specs.FinSet as set
+use Rattle.mds_base.specs.declared.limits.TheConstants.{ATTEMPTS, DIRECTORIES}
 use Rattle.mds_base.specs.Calls.{CallOn, OnName, OnDirectory, OnPartition, asked_of, dir_of}
 use Rattle.mds_base.specs.declared.TheConstants.{RADIX}
 use Rattle.mds_base.specs.declared.setup.Setup.{Setup}
@@ -86,12 +87,12 @@ attempt_of (Some pending) = pending.attempt
 -- a call is open whose directory's number is within its range, and whose attempts leave room
 abbrev pub HasPending : Option Pending → Type 0
 HasPending None = ⊥
-HasPending (Some pending) = (dir_of pending.call < 2 ^ 48) × (pending.attempt < 2 ^ 31)
+HasPending (Some pending) = (dir_of pending.call < DIRECTORIES) × (pending.attempt < ATTEMPTS)
 
 -- the attempts of the open call, if there is one, leave room
 abbrev pub HasRoom : Option Pending → Type 0
 HasRoom None = Unit {0}
-HasRoom (Some pending) = pending.attempt < 2 ^ 31
+HasRoom (Some pending) = pending.attempt < ATTEMPTS
 
 -- the open call was sent again
 abbrev pub SendsAgain : ClientV → ClientV → Msg → Option Pending → Type 0

@@ -1,7 +1,8 @@
-ghost use Rattle.std.specs.Prelude.{◌≡◌, ℕ, ◌+◌, ◌^◌, ◌<◌, ◌≤◌, OnOk, OnErr, IfOk, Some, None, true, false, is_some, unwrap_or};
+ghost use Rattle.std.specs.Prelude.{◌≡◌, ℕ, ◌+◌, ◌<◌, ◌≤◌, OnOk, OnErr, IfOk, Some, None, true, false, is_some, unwrap_or};
 ghost use Rattle.std.specs.FinMap as map;
 ghost use Rattle.std.specs.Ordering.{nat_cmp};
 ghost use Rattle.std.specs.FinSet as set;
+ghost use Rattle.mds_base.specs.declared.limits.TheConstants.{CALLS, DIRECTORIES};
 ghost use Rattle.bitmap.specs.Bits.{Bits};
 ghost use Rattle.client_core.specs.Clients.{new_client, bits_in, target_of, zero_bits, request_of, cursor_of, issued, issue_msg, merged, located_in, attempt_of, HasPending, HasRoom, SendsAgain};
 ghost use Rattle.mds_base.specs.Calls.{dir_of};
@@ -127,7 +128,7 @@ impl Client {
 
     // The request that the client sends for a call.
     fn request(&self, alloc: Global, seq: u64, attempt: u32, call: &Call) -> Result<Msg, AllocError>
-        requires { dir_of call.now < 2 ^ 48 }
+        requires { dir_of call.now < DIRECTORIES }
         ensures { IfOk result (λ msg. msg ≡ request_of self.now seq attempt call.now) }
     {
         let server = server_of(call.dir(), self.target(call), self.setup.servers);
@@ -148,8 +149,8 @@ impl Client {
     /// Opens the client's next call, and gives the request to send. Where there is no memory for it nothing changes.
     pub fn issue(&mut self, alloc: Global, call: Call) -> Result<Msg, AllocError>
         requires idle { self.old.pending ≡ None }
-        requires fits { dir_of call < 2 ^ 48 }
-        requires room { self.old.seq < 2 ^ 63 }
+        requires fits { dir_of call < DIRECTORIES }
+        requires room { self.old.seq < CALLS }
         ensures ok { IfOk result (λ msg. msg ≡ issue_msg self.old call) }
         ensures client { OnOk result (self.new ≡ issued self.old call) }
         ensures err { OnErr result (self.new ≡ self.old) }

@@ -4,6 +4,7 @@ pub mod Frames
 pub mod Lengths
 pub mod Makes
 pub mod Reading
+pub mod Readings
 pub mod Replays
 pub mod Scans
 pub mod Told

@@ -1,4 +1,5 @@
 pub mod Calls
+pub mod Disks
 pub mod Found
 pub mod Frame
 pub mod Log

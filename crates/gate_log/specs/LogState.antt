@@ -1,11 +1,8 @@
 -- An open log, and what the disk owes it.
-use Rattle.std.specs.Prelude.{◌≡◌, ◌≢◌, ◌≤◌, ℕ, Bool, false, List, length, Some, Result, IfErr, OnOk, IsErrOf}
-use Rattle.gate_log.specs.declared.gate_log.LogFault.{LogFault}
-use Rattle.gate_log.specs.declared.gate_log.LogFault.TheVariants.{Device}
+use Rattle.std.specs.Prelude.{◌≡◌, ◌≢◌, ◌≤◌, ℕ, Bool, false, List, length, Some}
 use Rattle.gate_log.specs.Log.{HoldsLog, log_length}
 use Rattle.mds_out.specs.Disk.{Image, Contents, Lengths, ChangesOne}
 use Rattle.mds_out.specs.Images.{IsTorn}
-use Rattle.mds_out.specs.Fault.{Rose}
 use Rattle.mds_out.specs.Known.{OnTold}
 
 -- the number of its file, the bytes of the log with its closed gate, and whether it has stopped
@@ -49,13 +46,6 @@ pub record IsElsewhereOld (file : ℕ) (old : Image → Type 0) (image : Image) 
   pub before : Image
   pub was : old before
   pub others : (other : ℕ) → other ≢ file → image other ≡ before other
-
--- A log's calls: the disk's count never falls, rises where `Device` is answered, and stays at each other answer.
-pub record HasLogCause {T : Type 0} (before now : ℕ) (result : Result T LogFault) : Type 0 where
-  pub later : before ≤ now
-  pub device : IsErrOf result Device → Rose before now
-  pub other : IfErr result (λ fault. fault ≢ Device → now ≡ before)
-  pub kept : OnOk result (now ≡ before)
 
 -- a log that has not stopped
 abbrev pub open_log : ℕ → ℕ → LogState

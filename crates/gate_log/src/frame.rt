@@ -2,11 +2,12 @@
 ghost use Rattle.std.specs.Prelude.{◌≡◌, ◌+◌, ◌-◌, ◌^◌, ◌<◌, ◌≤◌, ◌++◌, ◌∷◌, [], List, ℕ, Some, length, drop, take, IfOk, IfErr, OnOk, IfSome, IsErrOf};
 ghost use Rattle.std.specs.Int.{to_be_bytes, from_be_bytes, w32};
 ghost use Rattle.gate_log.specs.Calls.{Asks, IsGateAt, IsSomeGate, IsReplayed};
+ghost use Rattle.gate_log.specs.Disks.{IsLogReading};
 ghost use Rattle.gate_log.specs.Frame.{framed, IsLengthAt};
-ghost use Rattle.gate_log.specs.LogState.{open_log, IsReady, HasLogCause};
+ghost use Rattle.gate_log.specs.LogState.{open_log, IsReady};
 ghost use Rattle.gate_log.specs.Refusals.{IsBodyRefusal};
 ghost use Rattle.mds_out.specs.Calls.{next_number};
-ghost use Rattle.mds_out.specs.Disk.{AreSame, LeavesOnly, IsUnchanged, HasDiskCause};
+ghost use Rattle.mds_out.specs.Disk.{IsReading};
 ghost use Rattle.mds_out.specs.Known.{OnTold};
 
 use crate::LogFault;
@@ -108,23 +109,16 @@ pub(crate) fn length_at<D: Disk>(
     requires known { OnTold (D.sizes disk.old file) (λ size. end ≤ size) }
     ensures length { IfOk result (λ count. OnTold (D.seen disk.old file) (IsLengthAt gate end count)) }
     ensures fits { IfOk result (λ count. IfSome count (λ n. (n < 2 ^ 32) × (gate + 5 + n < end))) }
-    ensures unchanged { IsUnchanged (D.seen disk.old) (D.seen disk.new) (D.sizes disk.old) (D.sizes disk.new) }
-    ensures crash { AreSame (D.images disk.old) (D.images disk.new) }
-    ensures any_moment { LeavesOnly D.moment D.images_since disk.old disk.new (D.images disk.old) }
-    ensures no_memory { IsErrOf result DiskFault.OutOfMemory → ⊥ }
-    ensures cause { HasDiskCause (D.faults disk.old) (D.faults disk.new) result }
-    ensures lasts { D.lasts disk.old disk.new }
-    ensures failed { IsErrOf result DiskFault.Device → D.fails disk.old disk.new }
+    ensures call { IsReading D.seen D.sizes D.images D.moment D.images_since D.faults D.changes_asked D.lasts D.fails disk.old disk.new result }
     ensures asked { D.asked disk.new ≤ D.asked disk.old + 1 }
     ensures asked_once { IfOk result (λ count. IfSome count (λ _. D.asked disk.new ≡ next_number (D.asked disk.old))) }
-    ensures changes { D.changes_asked disk.new ≡ D.changes_asked disk.old }
 {
     let behind = end - gate - 1;
     if behind < 5 {
         return Ok(None);
     }
     let mut len = [0; Piece::FRONT];
-    read_at(disk, file, gate + 1, &mut len)?;
+    disk.read(file, gate + 1, &mut len)?;
     let count = number_of(&len) as u64;
     if behind - 4 <= count {
         return Ok(None);
@@ -149,45 +143,16 @@ pub(crate) fn body_at<D: Disk>(
     ensures gate { IfOk result (λ next. OnTold (D.seen disk.new file) (IsSomeGate (open_log file end) next)) }
     ensures next { IfOk result (λ next. next ≡ at + 5 + length into.new.items) }
     ensures onward { IfOk result (λ next. (at < next) × (next < end)) }
-    ensures unchanged { IsUnchanged (D.seen disk.old) (D.seen disk.new) (D.sizes disk.old) (D.sizes disk.new) }
-    ensures crash { AreSame (D.images disk.old) (D.images disk.new) }
-    ensures any_moment { LeavesOnly D.moment D.images_since disk.old disk.new (D.images disk.old) }
     ensures refused { IfErr result (IsBodyRefusal (D.seen disk.old file) into.old.items into.new.items) }
-    ensures cause { HasLogCause (D.faults disk.old) (D.faults disk.new) result }
-    ensures lasts { D.lasts disk.old disk.new }
-    ensures failed { IsErrOf result LogFault.Device → D.fails disk.old disk.new }
+    ensures call { IsLogReading D.seen D.sizes D.images D.moment D.images_since D.faults D.changes_asked D.lasts D.fails disk.old disk.new result }
     ensures asked { Asks 2 (D.asked disk.old) (D.asked disk.new) result }
-    ensures changes { D.changes_asked disk.new ≡ D.changes_asked disk.old }
 {
     let Some(count) = length_at(disk, file, end, at)? else {
         return Err(LogFault::BadLog { place: at });
     };
     into.resize(count as usize, 0)?;
-    read_at(disk, file, at + 5, into)?;
+    disk.read(file, at + 5, into)?;
     Ok(at + 5 + count)
-}
-
-/// A read that says of each moment that it changed no image.
-pub(crate) fn read_at<D: Disk>(
-    disk: &mut D,
-    file: u32,
-    at: u64,
-    into: &mut [u8],
-) -> Result<(), DiskFault>
-    requires short { at + length into.old < 2 ^ 63 }
-    requires within { OnTold (D.sizes disk.old file) (λ size. at + length into.old ≤ size) }
-    ensures bytes { OnOk result (OnTold (D.seen disk.old file) (λ bytes. into.new ≡ take (length into.old) (drop at bytes))) }
-    ensures unchanged { IsUnchanged (D.seen disk.old) (D.seen disk.new) (D.sizes disk.old) (D.sizes disk.new) }
-    ensures crash { AreSame (D.images disk.old) (D.images disk.new) }
-    ensures any_moment { LeavesOnly D.moment D.images_since disk.old disk.new (D.images disk.old) }
-    ensures no_memory { IsErrOf result DiskFault.OutOfMemory → ⊥ }
-    ensures cause { HasDiskCause (D.faults disk.old) (D.faults disk.new) result }
-    ensures lasts { D.lasts disk.old disk.new }
-    ensures failed { IsErrOf result DiskFault.Device → D.fails disk.old disk.new }
-    ensures asked { D.asked disk.new ≡ next_number (D.asked disk.old) }
-    ensures changes { D.changes_asked disk.new ≡ D.changes_asked disk.old }
-{
-    disk.read(file, at, into)
 }
 
 // The number that four bytes spell, the most significant one first.

@@ -1,12 +1,13 @@
 //! The log.
 ghost use Rattle.std.specs.Prelude.{◌≡◌, ◌+◌, ◌^◌, ◌<◌, ◌≤◌, ◌++◌, ◌∷◌, [], List, ℕ, Ok, Err, Some, None, true, false, length, IfOk, IfErr, OnOk, OnErr, IsErrOf, IfSome, MatchOption};
 ghost use Rattle.gate_log.specs.Calls.{Asks, AsksForBody, IsDiskAnswer, IsOpenAnswer, IsMaking, IsGateAt, IsSomeGate, IsReplayed, HasRead, ReadsOn};
+ghost use Rattle.gate_log.specs.Disks.{IsLogReading, IsLogChanging};
 ghost use Rattle.gate_log.specs.Found.{IsFound, AsksToFind};
 ghost use Rattle.gate_log.specs.Log.{IsBeforeOrAfter, HoldsOneLog, IsEitherLogOrShort, IsShortAtOnePlace, LengthsAddUp, OneMoreIsLonger, BodiesStand};
-ghost use Rattle.gate_log.specs.LogState.{open_log, IsReady, HasBodies, IsElsewhereOld, HasLogCause};
+ghost use Rattle.gate_log.specs.LogState.{open_log, IsReady, HasBodies, IsElsewhereOld};
 ghost use Rattle.gate_log.specs.Refusals.{log_fault_of, IsReplayRefusal, IsEndReady, IsShortEnd};
 ghost use Rattle.gate_log.specs.declared.gate_log.LogFault.TheVariants.{OutOfMemory};
-ghost use Rattle.mds_out.specs.Disk.{LeavesOnly, IsUnchanged, IsElsewhereUnchanged, AreSame, HasDiskCause, StaysTold};
+ghost use Rattle.mds_out.specs.Disk.{LeavesOnly, IsUnchanged, IsElsewhereUnchanged, IsChanging, StaysTold};
 ghost use Rattle.mds_out.specs.Known.{OnTold};
 
 use crate::Piece;
@@ -91,9 +92,7 @@ impl GateLog {
         ensures any_moment { LeavesOnly D.moment D.images_since disk.old disk.new (IsMaking file (D.images disk.old)) }
         ensures elsewhere { IsElsewhereUnchanged file (D.seen disk.old) (D.seen disk.new) (D.sizes disk.old) (D.sizes disk.new) }
         ensures answer { IsDiskAnswer result }
-        ensures cause { HasLogCause (D.faults disk.old) (D.faults disk.new) result }
-        ensures lasts { D.lasts disk.old disk.new }
-        ensures failed { IsErrOf result LogFault.Device → D.fails disk.old disk.new }
+        ensures call { IsLogChanging D.faults D.lasts D.fails disk.old disk.new result }
         ensures asked { Asks 3 (D.asked disk.old) (D.asked disk.new) result }
         ensures changes { Asks 2 (D.changes_asked disk.old) (D.changes_asked disk.new) result }
     {
@@ -116,9 +115,7 @@ impl GateLog {
         ensures unchanged { IsUnchanged (D.seen disk.old) (D.seen disk.new) (D.sizes disk.old) (D.sizes disk.new) }
         ensures any_moment { LeavesOnly D.moment D.images_since disk.old disk.new (D.images disk.old) }
         ensures answer { IsOpenAnswer (D.seen disk.old file) result }
-        ensures cause { HasLogCause (D.faults disk.old) (D.faults disk.new) result }
-        ensures lasts { D.lasts disk.old disk.new }
-        ensures failed { IsErrOf result LogFault.Device → D.fails disk.old disk.new }
+        ensures call { IsLogChanging D.faults D.lasts D.fails disk.old disk.new result }
         ensures asked { IfOk result (λ log. D.asked disk.new ≤ D.asked disk.old + 2 + log.length) }
         ensures changes { D.changes_asked disk.new ≡ D.changes_asked disk.old }
     {
@@ -149,9 +146,7 @@ impl GateLog {
         ensures stopped { self.old.stopped ≡ true → (result ≡ Err LogFault.Stopped) × (self.new ≡ self.old) × (disk.new ≡ disk.old) }
         ensures answer { self.old.stopped ≡ false → IsDiskAnswer result }
         ensures stops { OnErr result (self.new ≡ record self.old { stopped = true }) }
-        ensures cause { HasLogCause (D.faults disk.old) (D.faults disk.new) result }
-        ensures lasts { D.lasts disk.old disk.new }
-        ensures failed { IsErrOf result LogFault.Device → D.fails disk.old disk.new }
+        ensures call { IsLogChanging D.faults D.lasts D.fails disk.old disk.new result }
         ensures asked { Asks 4 (D.asked disk.old) (D.asked disk.new) result }
         ensures changes { Asks 2 (D.changes_asked disk.old) (D.changes_asked disk.new) result }
     {
@@ -191,17 +186,11 @@ impl GateLog {
         ensures gate { IfOk result (λ next. IfSome next (λ place. OnTold (D.seen disk.new self.old.file) (IsSomeGate self.old place))) }
         ensures end { IfOk result (λ next. MatchOption next (at + 1 ≡ self.old.length) (λ place. (at < place) × (place < self.old.length))) }
         ensures untouched { IfOk result (λ next. next ≡ None → into.new.items ≡ into.old.items) }
-        ensures unchanged { IsUnchanged (D.seen disk.old) (D.seen disk.new) (D.sizes disk.old) (D.sizes disk.new) }
-        ensures crash { AreSame (D.images disk.old) (D.images disk.new) }
-        ensures any_moment { LeavesOnly D.moment D.images_since disk.old disk.new (D.images disk.old) }
         ensures same { OnOk result (self.new ≡ self.old) }
         ensures ready { self.new.stopped ≡ false → IsReady self.new (D.seen disk.new) (D.sizes disk.new) (D.images disk.new) }
         ensures refused { IfErr result (IsReplayRefusal (D.seen disk.old self.old.file) self.old self.new into.old.items into.new.items) }
-        ensures cause { HasLogCause (D.faults disk.old) (D.faults disk.new) result }
-        ensures lasts { D.lasts disk.old disk.new }
-        ensures failed { IsErrOf result LogFault.Device → D.fails disk.old disk.new }
+        ensures call { IsLogReading D.seen D.sizes D.images D.moment D.images_since D.faults D.changes_asked D.lasts D.fails disk.old disk.new result }
         ensures asked { AsksForBody (D.asked disk.old) (D.asked disk.new) result }
-        ensures changes { D.changes_asked disk.new ≡ D.changes_asked disk.old }
     {
         if self.stopped {
             return Err(LogFault::Stopped);
@@ -244,9 +233,7 @@ fn make_file<D: Disk>(disk: &mut D, file: u32) -> Result<(), DiskFault>
     ensures told { StaysTold (D.seen disk.old file) (D.seen disk.new file) }
     ensures any_moment { LeavesOnly D.moment D.images_since disk.old disk.new (IsMaking file (D.images disk.old)) }
     ensures elsewhere { IsElsewhereUnchanged file (D.seen disk.old) (D.seen disk.new) (D.sizes disk.old) (D.sizes disk.new) }
-    ensures cause { HasDiskCause (D.faults disk.old) (D.faults disk.new) result }
-    ensures lasts { D.lasts disk.old disk.new }
-    ensures failed { IsErrOf result DiskFault.Device → D.fails disk.old disk.new }
+    ensures call { IsChanging D.faults D.lasts D.fails disk.old disk.new result }
     ensures asked { Asks 3 (D.asked disk.old) (D.asked disk.new) result }
     ensures changes { Asks 2 (D.changes_asked disk.old) (D.changes_asked disk.new) result }
 {
@@ -261,9 +248,7 @@ fn find_end<D: Disk>(disk: &mut D, file: u32) -> Result<Found, DiskFault>
     ensures ready { IfOk result (λ found. IsEndReady file found (D.seen disk.new) (D.sizes disk.new) (D.images disk.new)) }
     ensures unchanged { IsUnchanged (D.seen disk.old) (D.seen disk.new) (D.sizes disk.old) (D.sizes disk.new) }
     ensures any_moment { LeavesOnly D.moment D.images_since disk.old disk.new (D.images disk.old) }
-    ensures cause { HasDiskCause (D.faults disk.old) (D.faults disk.new) result }
-    ensures lasts { D.lasts disk.old disk.new }
-    ensures failed { IsErrOf result DiskFault.Device → D.fails disk.old disk.new }
+    ensures call { IsChanging D.faults D.lasts D.fails disk.old disk.new result }
     ensures asked { IfOk result (AsksToFind (D.asked disk.old + 2) (D.asked disk.new)) }
     ensures changes { D.changes_asked disk.new ≡ D.changes_asked disk.old }
 {

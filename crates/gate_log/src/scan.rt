@@ -1,12 +1,12 @@
 //! Reading a log from gate to gate.
 ghost use Rattle.std.specs.Prelude.{◌≡◌, ◌+◌, ◌^◌, ◌<◌, ◌≤◌, Some, IfOk, IsErrOf};
 ghost use Rattle.mds_out.specs.Known.{OnTold};
-ghost use Rattle.mds_out.specs.Disk.{AreSame, LeavesOnly, IsUnchanged, HasDiskCause};
+ghost use Rattle.mds_out.specs.Disk.{IsReading};
 ghost use Rattle.gate_log.specs.Found.{IsFound, EndsWithin, AsksToFind};
 ghost use Rattle.gate_log.specs.declared.scan.Step.TheVariants as Step;
 ghost use Rattle.gate_log.specs.Steps.{IsStep, IsOnward};
 
-use crate::frame::{length_at, read_at};
+use crate::frame::length_at;
 use mds_out::{Disk, DiskFault};
 
 /// What stands at the place of a gate.
@@ -35,14 +35,8 @@ pub(crate) fn end_of<D: Disk>(disk: &mut D, file: u32, size: u64) -> Result<Foun
     requires known { D.sizes disk.old file ≡ Some size }
     ensures found { IfOk result (λ found. OnTold (D.seen disk.old file) (IsFound found)) }
     ensures within { IfOk result (EndsWithin size) }
-    ensures unchanged { IsUnchanged (D.seen disk.old) (D.seen disk.new) (D.sizes disk.old) (D.sizes disk.new) }
-    ensures crash { AreSame (D.images disk.old) (D.images disk.new) }
-    ensures any_moment { LeavesOnly D.moment D.images_since disk.old disk.new (D.images disk.old) }
-    ensures cause { HasDiskCause (D.faults disk.old) (D.faults disk.new) result }
-    ensures lasts { D.lasts disk.old disk.new }
-    ensures failed { IsErrOf result DiskFault.Device → D.fails disk.old disk.new }
+    ensures call { IsReading D.seen D.sizes D.images D.moment D.images_since D.faults D.changes_asked D.lasts D.fails disk.old disk.new result }
     ensures asked { IfOk result (AsksToFind (D.asked disk.old) (D.asked disk.new)) }
-    ensures changes { D.changes_asked disk.new ≡ D.changes_asked disk.old }
 {
     if size == 0 {
         return Ok(Found::Bad { place: 0 });
@@ -69,18 +63,12 @@ pub(crate) fn step_at<D: Disk>(
     requires known { D.sizes disk.old file ≡ Some size }
     ensures step { IfOk result (λ step. OnTold (D.seen disk.old file) (IsStep place step)) }
     ensures onward { IfOk result (IsOnward place size) }
-    ensures unchanged { IsUnchanged (D.seen disk.old) (D.seen disk.new) (D.sizes disk.old) (D.sizes disk.new) }
-    ensures crash { AreSame (D.images disk.old) (D.images disk.new) }
-    ensures any_moment { LeavesOnly D.moment D.images_since disk.old disk.new (D.images disk.old) }
-    ensures cause { HasDiskCause (D.faults disk.old) (D.faults disk.new) result }
-    ensures lasts { D.lasts disk.old disk.new }
-    ensures failed { IsErrOf result DiskFault.Device → D.fails disk.old disk.new }
+    ensures call { IsReading D.seen D.sizes D.images D.moment D.images_since D.faults D.changes_asked D.lasts D.fails disk.old disk.new result }
     ensures asked { D.asked disk.new ≤ D.asked disk.old + 2 }
     ensures asked_once { IfOk result (λ step. step ≡ Step.Closed → D.asked disk.new ≤ D.asked disk.old + 1) }
-    ensures changes { D.changes_asked disk.new ≡ D.changes_asked disk.old }
 {
     let mut gate = [0; 1];
-    read_at(disk, file, place, &mut gate)?;
+    disk.read(file, place, &mut gate)?;
     if gate[0] != 1 {
         return Ok(Step::Closed);
     }

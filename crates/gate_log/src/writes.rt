@@ -1,7 +1,7 @@
 //! The writes of a log, each synced before the next.
 ghost use Rattle.std.specs.Prelude.{◌≡◌, ◌+◌, ◌-◌, ◌^◌, ◌<◌, ◌≤◌, ◌++◌, ◌∷◌, [], List, ℕ, max, false, length, OnOk, OnErr, IsErrOf, Some};
 ghost use Rattle.mds_out.specs.Known.{OnKnown, OnTold};
-ghost use Rattle.mds_out.specs.Disk.{Image, Tells, put, LeavesOnly, IsElsewhereUnchanged, HasDiskCause, StaysTold};
+ghost use Rattle.mds_out.specs.Disk.{Image, Tells, put, LeavesOnly, IsElsewhereUnchanged, StaysTold, IsChanging};
 ghost use Rattle.mds_out.specs.Calls.{next_number};
 ghost use Rattle.gate_log.specs.Calls.{Asks};
 ghost use Rattle.gate_log.specs.Log.{IsBeforeOrAfter};
@@ -26,9 +26,7 @@ pub(crate) fn write_synced<D: Disk>(
     ensures elsewhere { IsElsewhereUnchanged file (D.seen disk.old) (D.seen disk.new) (D.sizes disk.old) (D.sizes disk.new) }
     ensures any_moment { LeavesOnly D.moment D.images_since disk.old disk.new (IsWrittenOver file at (length bytes.now) (D.images disk.old)) }
     ensures crash { (image : Image) → D.images disk.new image → IsWrittenOver file at (length bytes.now) (D.images disk.old) image }
-    ensures cause { HasDiskCause (D.faults disk.old) (D.faults disk.new) result }
-    ensures lasts { D.lasts disk.old disk.new }
-    ensures failed { IsErrOf result DiskFault.Device → D.fails disk.old disk.new }
+    ensures call { IsChanging D.faults D.lasts D.fails disk.old disk.new result }
     ensures asked { Asks 2 (D.asked disk.old) (D.asked disk.new) result }
     ensures changes { D.changes_asked disk.new ≡ next_number (D.changes_asked disk.old) }
 {
@@ -53,9 +51,7 @@ pub(crate) fn append_at<D: Disk>(
     ensures told { StaysTold (D.seen disk.old file) (D.seen disk.new file) }
     ensures elsewhere { IsElsewhereUnchanged file (D.seen disk.old) (D.seen disk.new) (D.sizes disk.old) (D.sizes disk.new) }
     ensures images_elsewhere { LeavesOnly D.moment D.images_since disk.old disk.new (IsElsewhereOld file (D.images disk.old)) }
-    ensures cause { HasDiskCause (D.faults disk.old) (D.faults disk.new) result }
-    ensures lasts { D.lasts disk.old disk.new }
-    ensures failed { IsErrOf result DiskFault.Device → D.fails disk.old disk.new }
+    ensures call { IsChanging D.faults D.lasts D.fails disk.old disk.new result }
     ensures asked { Asks 4 (D.asked disk.old) (D.asked disk.new) result }
     ensures changes { Asks 2 (D.changes_asked disk.old) (D.changes_asked disk.new) result }
 {

@@ -10,7 +10,7 @@ use Rattle.mds_cli.specs.Choices.{Names, Gives, Chooses, with_choice}
 use Rattle.mds_cli.specs.declared.words.Choice.{Choice}
 use Rattle.mds_cli.specs.declared.words.Choice.TheVariants.{Servers, Clients}
 use Rattle.mds_cli.specs.declared.words.Numbers.{Numbers}
-use Rattle.simulation.specs.Ranges.{IsSetup}
+use Rattle.mds_base.specs.Setups.{IsSetup}
 use Rattle.mds_cli.proofs.Spellings.{chooses_one, choice_shortens}
 
 -- the words are these choices

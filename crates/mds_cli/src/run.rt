@@ -1,7 +1,7 @@
 //! A run of the program, from its disks to its disks.
 ghost use Rattle.std.specs.Prelude.{◌≡◌, [], length};
 ghost use Rattle.simulation.specs.Fuses.{seen_by, images_by};
-ghost use Rattle.simulation.specs.Ranges.{IsSetup};
+ghost use Rattle.mds_base.specs.Setups.{IsSetup};
 ghost use Rattle.mds_cli.specs.Ending.{EndsAs, EndsRunAs, outside};
 ghost use Rattle.mds_cli.specs.Stops.{TextIsPaid, ScriptIsPaid};
 

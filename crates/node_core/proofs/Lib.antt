@@ -1,3 +1,4 @@
+pub mod Calls
 pub mod Keys
 pub mod Views
 pub mod Parts

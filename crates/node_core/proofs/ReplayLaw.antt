@@ -1,15 +1,14 @@
 -- Replaying the records of a message that was served gives what serving made.
-use Rattle.std.proofs.Common.{◌≡◌, ◌∙◌, sym, ap, refl, ℕ, ◌==◌, Bool, true, false, cond}
+use Rattle.std.proofs.Common.{◌≡◌, ◌∙◌, sym, ap, refl, ℕ, ◌==◌, Bool, true, false, cond, Option, Some, None}
 use Rattle.std.proofs.lemmas.Bool.{and_from, eq-eqb}
 use Rattle.mds_base.specs.declared.ask.Ask.{Ask}
 use Rattle.mds_base.specs.declared.reply.Final.{Final}
 use Rattle.mds_base.specs.declared.reply.Reply.{Reply}
 use Rattle.records.specs.declared.msg.Msg.{Msg}
-use Rattle.records.specs.declared.msg.Msg.TheVariants.{Request, Redirect, Answer, Busy, Held, Page, Closed, Transfer, Installed}
 use Rattle.sessions.specs.Kept.{judge_kept}
 use Rattle.node_core.specs.Nodes.{StoreV, owns, has_numbers, session_in}
-use Rattle.node_core.specs.Rules.{Asked, ChangeOf, LookOf, NotServed, asked_of, said_in, Outcome, Silent, Looks, Repeats, Carries, outcome_of, outcome}
-use Rattle.node_core.specs.Serving.{serve, served_as, carries, carried_at, part_at, replayed_all, may_carry}
+use Rattle.node_core.specs.Rules.{Asked, ChangeOf, LookOf, NotServed, asked_of, said_in, Outcome, Silent, Looks, Repeats, Carries, outcome_of, outcome, request_in}
+use Rattle.node_core.specs.Serving.{serve, serve_request, served_as, carries, carried_at, part_at, replayed_all, may_carry}
 use Rattle.mds_base.proofs.Finals.{same_final_self}
 use Rattle.node_core.proofs.Replayed.{owned_of, follows_so}
 
@@ -34,13 +33,9 @@ served_again store ask now (Looks reply) is numbers = refl
 served_again store ask now (Repeats said) is numbers = refl
 served_again store ask now (Carries said) is numbers = carried_again store ask now said (asked_of ask.call) refl is numbers
 
+request_again : (store : StoreV) (request : Option Ask) (now : ℕ) → has_numbers store.node ≡ true → replayed_all store (serve_request store request now).records ≡ (serve_request store request now).store
+request_again store None now numbers = refl
+request_again store (Some ask) now numbers = served_again store ask now (outcome store ask now) refl numbers
+
 pub replay_law : (store : StoreV) (msg : Msg) (now : ℕ) → has_numbers store.node ≡ true → replayed_all store (serve store msg now).records ≡ (serve store msg now).store
-replay_law store (Request to ask cursor) now numbers = served_again store ask now (outcome store ask now) refl numbers
-replay_law store (Redirect client seq attempt dir bits) now numbers = refl
-replay_law store (Transfer to dir part depth index count bits sessions top rows) now numbers = refl
-replay_law store (Answer client seq attempt reply) now numbers = refl
-replay_law store (Busy client seq attempt part depth) now numbers = refl
-replay_law store (Held client seq attempt until) now numbers = refl
-replay_law store (Page client seq attempt rows next) now numbers = refl
-replay_law store (Closed client seq attempt part epoch) now numbers = refl
-replay_law store (Installed to dir part child) now numbers = refl
+replay_law store msg now numbers = request_again store (request_in msg) now numbers

@@ -2,9 +2,10 @@
 use Rattle.std.proofs.Common.{◌≡◌, ◌∙◌, sym, ap, refl, ℕ, ◌+◌, Bool, true, false, cond, List, [], ◌∷◌, length, Option, Some, None, ◌==◌}
 use Rattle.std.specs.FinMap as map
 use Rattle.mds_base.specs.declared.attr.Attr.{Attr}
+use Rattle.mds_base.specs.declared.attr.Stamp.{Stamp}
 use Rattle.mds_base.specs.declared.ask.Ask.{Ask}
 use Rattle.mds_base.specs.declared.call.Call.{Call}
-use Rattle.mds_base.specs.declared.call.Call.TheVariants.{Create, Mkdir, Remove, Lookup, Setattr, Scan, Grab, Load, Link, Seal, Unseal, Kill, Unlink}
+use Rattle.mds_base.specs.declared.call.Call.TheVariants.{Create, Mkdir, Remove, Setattr}
 use Rattle.mds_base.specs.declared.reply.Final.{Final}
 use Rattle.mds_base.specs.declared.reply.Final.TheVariants.{Removed, IsDir}
 use Rattle.mds_base.specs.declared.reply.Reply.TheVariants.{Said}
@@ -21,6 +22,7 @@ use Rattle.node_core.specs.Nodes.{NodeV, StoreV, owns, session_in, row_in, row_k
 use Rattle.node_core.specs.Rules.{ChangeOf, LookOf, NotServed, asked_of, said_of, said_in, found, Silent, Looks, by_judged, outcome_of}
 use Rattle.node_core.specs.Serving.{ServedV, served_as, serve_ask, answer_to, carried, carried_at, part_at}
 use Rattle.node_core.specs.Edits.{node_noted, numbers_of}
+use Rattle.node_core.proofs.Calls.{each_change}
 
 abbrev nothing : StoreV → ServedV
 nothing store = record { store = store; records = []; outputs = [] }
@@ -70,26 +72,30 @@ removed_numbers : (d : ℕ) (n : List ℕ) (b : Bool) → numbers_of (cond b Rem
 removed_numbers d n true = refl
 removed_numbers d n false = refl
 
+created_numbers : (d : ℕ) (n : List ℕ) (before : Option Attr) (fresh : ℕ) → numbers_of (said_of (Create d n) before fresh) ≡ length (plain.given_by (Create d n) (Said (said_of (Create d n) before fresh)))
+created_numbers d n None fresh = refl
+created_numbers d n (Some attr) fresh = refl
+
+made_numbers : (d : ℕ) (n : List ℕ) (before : Option Attr) (fresh : ℕ) → numbers_of (said_of (Mkdir d n) before fresh) ≡ length (plain.given_by (Mkdir d n) (Said (said_of (Mkdir d n) before fresh)))
+made_numbers d n None fresh = refl
+made_numbers d n (Some attr) fresh = refl
+
+taken_numbers : (d : ℕ) (n : List ℕ) (before : Option Attr) (fresh : ℕ) → numbers_of (said_of (Remove d n) before fresh) ≡ length (plain.given_by (Remove d n) (Said (said_of (Remove d n) before fresh)))
+taken_numbers d n None fresh = refl
+taken_numbers d n (Some attr) fresh = removed_numbers d n (attr.dir == 0)
+
+set_numbers : (d : ℕ) (n : List ℕ) (mode size : ℕ) (stamp : Option Stamp) (before : Option Attr) (fresh : ℕ)
+    → numbers_of (said_of (Setattr d n mode size stamp) before fresh) ≡ length (plain.given_by (Setattr d n mode size stamp) (Said (said_of (Setattr d n mode size stamp) before fresh)))
+set_numbers d n mode size stamp None fresh = refl
+set_numbers d n mode size stamp (Some attr) fresh = refl
+
 -- how many numbers the reply of a change gives
 pub given_numbers : (call : Call) (before : Option Attr) (fresh : ℕ) (dir : ℕ) (name : List ℕ) → asked_of call ≡ ChangeOf dir name
     → numbers_of (said_of call before fresh) ≡ length (plain.given_by call (Said (said_of call before fresh)))
-given_numbers (Create d n) None fresh dir name e = refl
-given_numbers (Create d n) (Some attr) fresh dir name e = refl
-given_numbers (Mkdir d n) None fresh dir name e = refl
-given_numbers (Mkdir d n) (Some attr) fresh dir name e = refl
-given_numbers (Remove d n) None fresh dir name e = refl
-given_numbers (Remove d n) (Some attr) fresh dir name e = removed_numbers d n (attr.dir == 0)
-given_numbers (Setattr d n mode size stamp) None fresh dir name e = refl
-given_numbers (Setattr d n mode size stamp) (Some attr) fresh dir name e = refl
-given_numbers (Lookup d n) before fresh dir name e = cc
-given_numbers (Scan d) before fresh dir name e = cc
-given_numbers (Grab d n count) before fresh dir name e = cc
-given_numbers (Load d rows) before fresh dir name e = cc
-given_numbers (Link d n id) before fresh dir name e = cc
-given_numbers (Seal d part epoch) before fresh dir name e = cc
-given_numbers (Unseal d part epoch) before fresh dir name e = cc
-given_numbers (Kill d epoch) before fresh dir name e = cc
-given_numbers (Unlink d n id) before fresh dir name e = cc
+given_numbers call before fresh dir name e =
+    each_change (λ call dir name. numbers_of (said_of call before fresh) ≡ length (plain.given_by call (Said (said_of call before fresh))))
+    (λ d n. created_numbers d n before fresh) (λ d n. made_numbers d n before fresh) (λ d n. taken_numbers d n before fresh) (λ d n mode size stamp. set_numbers d n mode size stamp before fresh)
+    call dir name e
 
 -- what the code noted is what the specification notes
 noted_parts : (node : NodeV) (dir client seq next next' : ℕ) (said said' : Final) (edit edit' : Edit) (before before' : Option Attr) → next ≡ next' → said ≡ said' → edit ≡ edit' → before ≡ before'

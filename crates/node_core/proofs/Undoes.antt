@@ -13,17 +13,16 @@ use Rattle.mds_base.specs.declared.call.Call.{Call}
 use Rattle.mds_base.specs.declared.reply.Final.{Final}
 use Rattle.mds_base.specs.RowKeys.{RowMap}
 use Rattle.records.specs.declared.msg.Msg.{Msg}
-use Rattle.records.specs.declared.msg.Msg.TheVariants.{Request, Redirect, Answer, Busy, Held, Page, Closed, Transfer, Installed}
 use Rattle.sessions.specs.declared.kept.Kept.{Kept}
 use Rattle.sessions.specs.Kept.{SessionMap, restored, put_back}
 use Rattle.node_core.specs.declared.part.Part.{Part}
 use Rattle.mds_base.specs.declared.edit.Edit.{Edit}
 use Rattle.node_core.specs.declared.undo.Undo.{Undo}
 use Rattle.node_core.specs.Nodes.{NodeV, StoreV, PartKey, part_cmp, new_part, session_in, noted_in}
-use Rattle.node_core.specs.Rules.{Asked, ChangeOf, LookOf, NotServed, asked_of, said_in, Outcome, Silent, Looks, Repeats, Carries, outcome}
-use Rattle.node_core.specs.Serving.{serve, served_as, carried_at}
+use Rattle.node_core.specs.Rules.{Asked, ChangeOf, LookOf, NotServed, asked_of, said_in, Outcome, Silent, Looks, Repeats, Carries, outcome, request_in}
+use Rattle.node_core.specs.Serving.{serve, serve_request, served_as, carried_at}
 use Rattle.node_core.specs.Edits.{node_noted}
-use Rattle.node_core.specs.Undoing.{before_in, before_asked, before, part_undone, parts_back, parts_undone, undone}
+use Rattle.node_core.specs.Undoing.{before_in, before_asked, before_request, before, part_undone, parts_back, parts_undone, undone}
 use Rattle.node_core.proofs.Keys.{same_or_apart}
 use Rattle.node_core.proofs.Views.{parts_total, exact_parts, insert_here, remove_here, insert_own}
 
@@ -114,16 +113,12 @@ asked_undone store ask o undo (ChangeOf dir name) asked is = ap (undone (served_
 asked_undone store ask o undo (LookOf dir name) asked is = cc
 asked_undone store ask o undo NotServed asked is = cc
 
+request_undone : (store : StoreV) (request : Option Ask) (now : ℕ) (undo : Undo) → before_request store.node request ≡ Some undo → undone (serve_request store request now).store.node undo ≡ store.node
+request_undone store None now undo is = cc
+request_undone store (Some ask) now undo is = asked_undone store ask (outcome store ask now) undo (asked_of ask.call) refl is
+
 pub undo_law : (store : StoreV) (msg : Msg) (now : ℕ) (undo : Undo) → before store.node msg ≡ Some undo → undone (serve store msg now).store.node undo ≡ store.node
-undo_law store (Request to ask cursor) now undo is = asked_undone store ask (outcome store ask now) undo (asked_of ask.call) refl is
-undo_law store (Redirect client seq attempt dir bits) now undo is = cc
-undo_law store (Transfer to dir part depth index count bits sessions top rows) now undo is = cc
-undo_law store (Answer client seq attempt reply) now undo is = cc
-undo_law store (Busy client seq attempt part depth) now undo is = cc
-undo_law store (Held client seq attempt until) now undo is = cc
-undo_law store (Page client seq attempt rows next) now undo is = cc
-undo_law store (Closed client seq attempt part epoch) now undo is = cc
-undo_law store (Installed to dir part child) now undo is = cc
+undo_law store msg now undo is = request_undone store (request_in msg) now undo is
 
 none_node : (store : StoreV) (ask : Ask) (o : Outcome) (a : Asked) → asked_of ask.call ≡ a → before_asked store.node ask.client a ≡ None → (served_as store ask o).store.node ≡ store.node
 none_node store ask Silent a asked is = refl
@@ -133,17 +128,13 @@ none_node store ask (Carries said) (ChangeOf dir name) asked is = cc
 none_node store ask (Carries said) (LookOf dir name) asked is = ap (λ x. (carried_at store ask.client ask.seq ask.call x).node) asked
 none_node store ask (Carries said) NotServed asked is = ap (λ x. (carried_at store ask.client ask.seq ask.call x).node) asked
 
+none_request : (store : StoreV) (request : Option Ask) (now : ℕ) → before_request store.node request ≡ None → (serve_request store request now).store.node ≡ store.node
+none_request store None now is = refl
+none_request store (Some ask) now is = none_node store ask (outcome store ask now) (asked_of ask.call) refl is
+
 -- where there is nothing to take back serving leaves the node
 pub none_law : (store : StoreV) (msg : Msg) (now : ℕ) → before store.node msg ≡ None → (serve store msg now).store.node ≡ store.node
-none_law store (Request to ask cursor) now is = none_node store ask (outcome store ask now) (asked_of ask.call) refl is
-none_law store (Redirect client seq attempt dir bits) now is = refl
-none_law store (Transfer to dir part depth index count bits sessions top rows) now is = refl
-none_law store (Answer client seq attempt reply) now is = refl
-none_law store (Busy client seq attempt part depth) now is = refl
-none_law store (Held client seq attempt until) now is = refl
-none_law store (Page client seq attempt rows next) now is = refl
-none_law store (Closed client seq attempt part epoch) now is = refl
-none_law store (Installed to dir part child) now is = refl
+none_law store msg now is = none_request store (request_in msg) now is
 
 -- The entries of partitions
 

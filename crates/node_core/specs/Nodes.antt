@@ -1,12 +1,13 @@
 -- What a server keeps, as a value: its next directory number, and of each of its partitions the count of its rows
 -- and its sessions. The rows stand beside the node.
-use Rattle.std.specs.Prelude.{ℕ, ◌+◌, ◌*◌, ◌-◌, ◌^◌, ◌==◌, ◌&&◌, Bool, List, length, Option, Some, None, unwrap_or, nat_le}
+use Rattle.std.specs.Prelude.{ℕ, ◌+◌, ◌*◌, ◌-◌, ◌==◌, ◌&&◌, Bool, List, length, Option, Some, None, unwrap_or, nat_le}
 use Rattle.std.specs.declared.cmp.Ordering.{Ordering}
 use Rattle.std.specs.Ordering.{nat_cmp, ordering_then}
 use Rattle.std.specs.FinMap as map
 use Rattle.std.specs.FinSet as set
 use Rattle.bitmap.specs.Bits.{Bits}
 use Rattle.std.specs.Prelude.{map as list_map}
+use Rattle.mds_base.specs.declared.limits.TheConstants.{SERVER_DIRECTORIES, SERVE_DIRECTORIES}
 use Rattle.mds_base.specs.declared.attr.Attr.{Attr}
 use Rattle.mds_base.specs.declared.call.Call.{Call}
 use Rattle.mds_base.specs.declared.reply.Final.{Final}
@@ -47,14 +48,14 @@ pub record StoreV : Type 0 where
 
 -- the first directory number of a server, and the end of its numbers
 abbrev pub first_number : ℕ → ℕ
-first_number server = server * 2 ^ 40 + 2
+first_number server = server * SERVER_DIRECTORIES + 2
 
 abbrev pub end_of_numbers : ℕ → ℕ
-end_of_numbers server = (server + 1) * 2 ^ 40
+end_of_numbers server = (server + 1) * SERVER_DIRECTORIES
 
 -- whether a server has the directory numbers that serving one message may want
 abbrev pub has_numbers : NodeV → Bool
-has_numbers node = nat_le (node.next + 2 ^ 18) (end_of_numbers node.server)
+has_numbers node = nat_le (node.next + SERVE_DIRECTORIES) (end_of_numbers node.server)
 
 -- a partition in which nothing was noted
 abbrev pub new_part : Part

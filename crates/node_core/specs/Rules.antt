@@ -1,17 +1,23 @@
 -- What a server makes of a request.
-use Rattle.std.specs.Prelude.{ℕ, ◌+◌, List, Option, Some, None, if◌then◌else◌}
+use Rattle.std.specs.Prelude.{ℕ, ◌+◌, Bool, true, false, List, Option, Some, None, if◌then◌else◌}
 use Rattle.mds_base.specs.declared.attr.Attr.{Attr}
 use Rattle.mds_base.specs.declared.ask.Ask.{Ask}
 use Rattle.mds_base.specs.declared.call.Call.{Call}
-use Rattle.mds_base.specs.declared.call.Call.TheVariants.{Create, Mkdir, Remove, Lookup, Setattr, Scan, Grab, Load, Link, Seal, Unseal, Kill, Unlink}
+use Rattle.mds_base.specs.declared.call.Call.TheVariants.{Create, Mkdir, Remove, Lookup, Setattr}
+use Rattle.mds_base.specs.Calls.{CallOn, OnName, OnDirectory, OnPartition}
+use Rattle.mds_base.specs.Calls.{asked_of as call_on}
 use Rattle.mds_base.specs.declared.reply.Final.{Final}
 use Rattle.mds_base.specs.declared.reply.Final.TheVariants.{Created, CreatedDir, Exists, Removed, Missing, IsDir, Set, Stale}
 use Rattle.mds_base.specs.declared.reply.Reply.{Reply}
 use Rattle.mds_base.specs.declared.reply.Reply.TheVariants.{Said, Found}
 use Rattle.mds_base.specs.Entries.{is_file}
+use Rattle.records.specs.declared.msg.Msg.{Msg}
+use Rattle.records.specs.declared.msg.Msg.TheVariants.{Request}
 use Rattle.sessions.specs.declared.kept.Judged.{Judged}
 use Rattle.sessions.specs.declared.kept.Judged.TheVariants.{New, Again, Old}
 use Rattle.sessions.specs.Kept.{judge_kept}
+use Rattle.node_core.specs.declared.asks.Asks.{Asks}
+use Rattle.node_core.specs.declared.asks.Asks.TheVariants.{Change, Look, NothingYet}
 use Rattle.node_core.specs.Nodes.{StoreV, part_for, owns, row_in, session_in}
 
 -- what a call asks for: a change on a name, a look at a name, or what is not served yet
@@ -20,20 +26,36 @@ pub data Asked : Type 0 where
   LookOf : (dir : ℕ) (name : List ℕ) → Asked
   NotServed : Asked
 
+-- which calls are served: the one place that a call more is added to, once it has its replies in `said_of`
+abbrev pub is_served : Call → Bool
+is_served (Create dir name) = true
+is_served (Mkdir dir name) = true
+is_served (Remove dir name) = true
+is_served (Setattr dir name mode size stamp) = true
+is_served (Lookup dir name) = true
+is_served call = false
+
+-- what a call asks for, by what it is on
+abbrev pub asked_on : Bool → CallOn → Asked
+asked_on true (OnName dir name true) = ChangeOf dir name
+asked_on true (OnName dir name false) = LookOf dir name
+asked_on true (OnDirectory dir) = NotServed
+asked_on true (OnPartition dir part) = NotServed
+asked_on false on = NotServed
+
 abbrev pub asked_of : Call → Asked
-asked_of (Create dir name) = ChangeOf dir name
-asked_of (Mkdir dir name) = ChangeOf dir name
-asked_of (Remove dir name) = ChangeOf dir name
-asked_of (Setattr dir name mode size stamp) = ChangeOf dir name
-asked_of (Lookup dir name) = LookOf dir name
-asked_of (Scan dir) = NotServed
-asked_of (Grab dir name count) = NotServed
-asked_of (Load dir rows) = NotServed
-asked_of (Link dir name id) = NotServed
-asked_of (Seal dir part epoch) = NotServed
-asked_of (Unseal dir part epoch) = NotServed
-asked_of (Kill dir epoch) = NotServed
-asked_of (Unlink dir name id) = NotServed
+asked_of call = asked_on (is_served call) (call_on call)
+
+-- what the code's answer shows
+abbrev pub shown : Asks → Asked
+shown (Change dir name) = ChangeOf dir name.now
+shown (Look dir name) = LookOf dir name.now
+shown NothingYet = NotServed
+
+-- the request that a message is, where it is one: messages of a split are not served yet
+abbrev pub request_in : Msg → Option Ask
+request_in (Request server ask cursor) = Some ask
+request_in msg = None
 
 -- the reply that the plain rules give to a change, by the entry that stands there, with the number that mkdir would give
 abbrev pub said_of : Call → Option Attr → ℕ → Final

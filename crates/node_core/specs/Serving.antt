@@ -1,5 +1,5 @@
 -- What serving a message does, what replaying a record does and when it may follow, and what a restart sets.
-use Rattle.std.specs.Prelude.{◌≡◌, ℕ, ◌&&◌, ◌==◌, Bool, true, false, List, [], ◌∷◌, ◌++◌}
+use Rattle.std.specs.Prelude.{◌≡◌, ℕ, ◌&&◌, ◌==◌, Bool, true, false, List, [], ◌∷◌, ◌++◌, Option, Some, None}
 use Rattle.mds_base.specs.declared.ask.Ask.{Ask}
 use Rattle.mds_base.specs.declared.call.Call.{Call}
 use Rattle.mds_base.specs.declared.reply.Final.{Final}
@@ -7,7 +7,7 @@ use Rattle.mds_base.specs.Finals.{same_final}
 use Rattle.mds_base.specs.declared.reply.Reply.{Reply}
 use Rattle.mds_base.specs.declared.reply.Reply.TheVariants.{Said}
 use Rattle.records.specs.declared.msg.Msg.{Msg}
-use Rattle.records.specs.declared.msg.Msg.TheVariants.{Request, Answer}
+use Rattle.records.specs.declared.msg.Msg.TheVariants.{Answer}
 use Rattle.mds_base.specs.RowKeys.{RowMap}
 use Rattle.records.specs.declared.handled.Handled.{Handled}
 use Rattle.records.specs.declared.record.Record.{Record}
@@ -16,7 +16,7 @@ use Rattle.sessions.specs.declared.kept.Judged.{Judged}
 use Rattle.sessions.specs.declared.kept.Judged.TheVariants.{New, Again, Old}
 use Rattle.sessions.specs.Kept.{judge_kept}
 use Rattle.node_core.specs.Nodes.{NodeV, StoreV, owns, session_in, has_numbers, is_new, cleared, part_for, noted_in, rows_after}
-use Rattle.node_core.specs.Rules.{Asked, ChangeOf, LookOf, NotServed, asked_of, said_in, Outcome, Silent, Looks, Repeats, Carries, outcome}
+use Rattle.node_core.specs.Rules.{Asked, ChangeOf, LookOf, NotServed, asked_of, said_in, Outcome, Silent, Looks, Repeats, Carries, outcome, request_in}
 
 -- the store once a change on a name was carried out
 abbrev pub carried : StoreV → ℕ → ℕ → Call → ℕ → List ℕ → StoreV
@@ -61,10 +61,13 @@ served_as store ask (Carries said) =
 abbrev pub serve_ask : StoreV → Ask → ℕ → ServedV
 serve_ask store ask now = served_as store ask (outcome store ask now)
 
--- serving a message; a message of a split changes nothing and sends nothing, since nothing splits yet
+-- serving a message; what is no request changes nothing and sends nothing, since nothing splits yet
+abbrev pub serve_request : StoreV → Option Ask → ℕ → ServedV
+serve_request store None now = record { store = store; records = []; outputs = [] }
+serve_request store (Some ask) now = serve_ask store ask now
+
 abbrev pub serve : StoreV → Msg → ℕ → ServedV
-serve store (Request server ask cursor) now = serve_ask store ask now
-serve store msg now = record { store = store; records = []; outputs = [] }
+serve store msg now = serve_request store (request_in msg) now
 
 -- serving several messages, one after another
 abbrev pub serve_all : StoreV → List Msg → ℕ → ServedV

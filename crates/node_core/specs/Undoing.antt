@@ -1,13 +1,13 @@
 -- Taking back what serving a message changed in a node.
 use Rattle.std.specs.Prelude.{ℕ, Bool, true, false, Option, Some, None, is_some}
 use Rattle.std.specs.FinMap as map
+use Rattle.mds_base.specs.declared.ask.Ask.{Ask}
 use Rattle.records.specs.declared.msg.Msg.{Msg}
-use Rattle.records.specs.declared.msg.Msg.TheVariants.{Request}
 use Rattle.sessions.specs.Kept as sessions
 use Rattle.node_core.specs.declared.part.Part.{Part}
 use Rattle.node_core.specs.declared.undo.Undo.{Undo}
 use Rattle.node_core.specs.Nodes.{NodeV, PartKey, part_cmp, part_in, session_in}
-use Rattle.node_core.specs.Rules.{Asked, ChangeOf, LookOf, NotServed, asked_of}
+use Rattle.node_core.specs.Rules.{Asked, ChangeOf, LookOf, NotServed, asked_of, request_in}
 
 -- what the node keeps of a client in partition 0 of a directory, with the partition's count and the next number
 abbrev pub before_in : NodeV → ℕ → ℕ → Undo
@@ -26,9 +26,12 @@ before_asked node client (LookOf dir name) = None
 before_asked node client NotServed = None
 
 -- what serving the message may change; none where it changes nothing
+abbrev pub before_request : NodeV → Option Ask → Option Undo
+before_request node None = None
+before_request node (Some ask) = before_asked node ask.client (asked_of ask.call)
+
 abbrev pub before : NodeV → Msg → Option Undo
-before node (Request to ask cursor) = before_asked node ask.client (asked_of ask.call)
-before node msg = None
+before node msg = before_request node (request_in msg)
 
 abbrev pub part_undone : Part → Undo → Part
 part_undone part undo = record { count = undo.count; sessions = sessions.restored part.sessions undo.client undo.kept }

@@ -9,6 +9,7 @@
 //! and one write of a row; nothing is copied but the call that is recorded and the reply that is sent.
 #![tactic(auto)]
 
+mod asks;
 mod law;
 mod node;
 mod part;
@@ -17,6 +18,7 @@ mod rows;
 mod told;
 mod undo;
 
+pub use asks::is_served;
 pub use law::{laws_of_replay, laws_of_undo};
 pub use node::Node;
 pub use part::Part;

@@ -1,25 +1,28 @@
-ghost use Rattle.std.specs.Prelude.{◌≡◌, ℕ, ◌+◌, ◌==◌, ◌^◌, ◌<◌, ◌≤◌, OnOk, OnErr, IfOk, Some, true, false, unwrap_or, MatchBool, ◌≢◌};
+ghost use Rattle.std.specs.Prelude.{◌≡◌, ℕ, ◌+◌, ◌==◌, ◌<◌, ◌≤◌, OnOk, OnErr, IfOk, Some, true, false, unwrap_or, MatchBool, ◌≢◌};
 ghost use Rattle.std.specs.FinMap as map;
 ghost use Rattle.sessions.specs.declared.kept.Judged.{Judged};
 ghost use Rattle.sessions.specs.Kept.{judge_kept};
 ghost use Rattle.node_core.specs.Nodes.{part_cmp, new_part, new_node, owns, session_in, has_numbers, parts_cleared, bits_in};
 ghost use Rattle.mds_base.specs.RowsCause.{HasRowsCause};
+ghost use Rattle.mds_base.specs.declared.limits.TheConstants.{DIRECTORIES, LEASE_MOST, MOMENTS, SERVERS_MOST};
 ghost use Rattle.node_core.specs.Edits.{parts_noted, node_noted, numbers_of};
 ghost use Rattle.node_core.specs.Rules.{ChangeOf, LookOf, asked_of, found};
 ghost use Rattle.records.specs.declared.record.Record.{Record};
 ghost use Rattle.records.specs.declared.msg.Msg.{Msg};
 ghost use Rattle.node_core.specs.Planning.{noted_by, written_by, IsNewer, IsPlanOf, IsPlan};
 ghost use Rattle.node_core.specs.Serving.{serve, serve_ask, IsServed, IsReplayed, may_carry, restarted, is_head, reminders};
-ghost use Rattle.node_core.specs.Undoing.{before, before_in, undone};
+ghost use Rattle.node_core.specs.Undoing.{before, before_in, before_asked, undone};
 ghost use Rattle.node_core.specs.Ranges.{DirFits, RecordFits};
 ghost use Rattle.mds_base.specs.Calls.{dir_of};
 
+use crate::asks::{Asks, asks_of, request_in};
 use crate::part::{Part, Weighed, weigh};
 use crate::plan::{Change, Plan};
 use crate::rows::{key_of, write};
 use crate::told::{answered, nothing, recorded};
 use crate::undo::{Undo, undo_in};
 use bitmap::Bitmap;
+use mds_base::limits::{SERVE_DIRECTORIES, SERVER_DIRECTORIES};
 use mds_base::{Ask, Attr, Call, Final, Name, Reply, Rows, RowsFault, Setup};
 use placement::zeroth;
 use records::{Handled, Msg, MsgList, Record};
@@ -57,14 +60,14 @@ impl Node {
     /// A node on which nothing was noted yet.
     pub fn new(alloc: Global, server: u32, setup: Setup) -> Node
         requires in_setup { server < setup.servers }
-        requires servers { setup.servers ≤ 32 }
-        requires lease { setup.lease ≤ 1000000 }
+        requires servers { setup.servers ≤ SERVERS_MOST }
+        requires lease { setup.lease ≤ LEASE_MOST }
         ensures { result ≡ new_node server setup }
     {
         Node {
             server,
             setup,
-            next: u64::from(server) * (1 << 40) + 2,
+            next: u64::from(server) * SERVER_DIRECTORIES + 2,
             parts: BTreeMap::new(alloc),
         }
     }
@@ -109,7 +112,7 @@ impl Node {
         now: u64,
     ) -> Result<Handled, RowsFault>
         requires fits { DirFits msg.now }
-        requires moment { now < 2 ^ 43 }
+        requires moment { now < MOMENTS }
         requires numbers { has_numbers self.old ≡ true }
         ensures ok { IfOk result (λ handled. IsServed (serve (record { node = self.old; rows = R.contents rows.old }) msg.now now) self.new (R.contents rows.new) handled) }
         ensures err { OnErr result ((self.new ≡ self.old) × (R.contents rows.new ≡ R.contents rows.old)) }
@@ -129,14 +132,14 @@ impl Node {
         now: u64,
     ) -> Result<Plan, RowsFault>
         requires fits { DirFits msg.now }
-        requires moment { now < 2 ^ 43 }
+        requires moment { now < MOMENTS }
         ensures ok { IfOk result (λ plan. IsPlan (record { node = self.now; rows = R.contents rows.old }) msg.now now plan) }
         ensures rows { R.contents rows.new ≡ R.contents rows.old }
         ensures cause { HasRowsCause (R.faults rows.old) (R.faults rows.new) result }
     {
-        match msg {
-            Msg::Request { ask, .. } => self.plan_ask(alloc, rows, ask, now),
-            _ => Ok(Plan::unchanging(nothing(alloc))),
+        match request_in(msg) {
+            Some(ask) => self.plan_ask(alloc, rows, ask, now),
+            None => Ok(Plan::unchanging(nothing(alloc))),
         }
     }
 
@@ -207,26 +210,16 @@ impl Node {
         ask: &Ask,
         now: u64,
     ) -> Result<Plan, RowsFault>
-        requires fits { dir_of ask.now.call < 2 ^ 48 }
-        requires moment { now < 2 ^ 43 }
+        requires fits { dir_of ask.now.call < DIRECTORIES }
+        requires moment { now < MOMENTS }
         ensures ok { IfOk result (λ plan. IsPlanOf (record { node = self.now; rows = R.contents rows.old }) (serve_ask (record { node = self.now; rows = R.contents rows.old }) ask.now now) plan) }
         ensures rows { R.contents rows.new ≡ R.contents rows.old }
         ensures cause { HasRowsCause (R.faults rows.old) (R.faults rows.new) result }
     {
-        match &ask.call {
-            Call::Create { dir, name } => self.plan_change(alloc, rows, ask, *dir, name, now),
-            Call::Mkdir { dir, name } => self.plan_change(alloc, rows, ask, *dir, name, now),
-            Call::Remove { dir, name } => self.plan_change(alloc, rows, ask, *dir, name, now),
-            Call::Setattr { dir, name, .. } => self.plan_change(alloc, rows, ask, *dir, name, now),
-            Call::Lookup { dir, name } => self.plan_look(alloc, rows, ask, *dir, name, now),
-            Call::Scan { .. } => Ok(Plan::unchanging(nothing(alloc))),
-            Call::Grab { .. } => Ok(Plan::unchanging(nothing(alloc))),
-            Call::Load { .. } => Ok(Plan::unchanging(nothing(alloc))),
-            Call::Link { .. } => Ok(Plan::unchanging(nothing(alloc))),
-            Call::Seal { .. } => Ok(Plan::unchanging(nothing(alloc))),
-            Call::Unseal { .. } => Ok(Plan::unchanging(nothing(alloc))),
-            Call::Kill { .. } => Ok(Plan::unchanging(nothing(alloc))),
-            Call::Unlink { .. } => Ok(Plan::unchanging(nothing(alloc))),
+        match asks_of(&ask.call) {
+            Asks::Change { dir, name } => self.plan_change(alloc, rows, ask, dir, name, now),
+            Asks::Look { dir, name } => self.plan_look(alloc, rows, ask, dir, name, now),
+            Asks::NothingYet => Ok(Plan::unchanging(nothing(alloc))),
         }
     }
 
@@ -240,8 +233,8 @@ impl Node {
         now: u64,
     ) -> Result<Plan, RowsFault>
         requires asked { asked_of ask.now.call ≡ LookOf dir name.now }
-        requires fits { dir < 2 ^ 48 }
-        requires moment { now < 2 ^ 43 }
+        requires fits { dir < DIRECTORIES }
+        requires moment { now < MOMENTS }
         ensures ok { IfOk result (λ plan. IsPlanOf (record { node = self.now; rows = R.contents rows.old }) (serve_ask (record { node = self.now; rows = R.contents rows.old }) ask.now now) plan) }
         ensures rows { R.contents rows.new ≡ R.contents rows.old }
         ensures cause { HasRowsCause (R.faults rows.old) (R.faults rows.new) result }
@@ -266,7 +259,7 @@ impl Node {
         now: u64,
     ) -> Result<Plan, RowsFault>
         requires asked { asked_of ask.now.call ≡ ChangeOf dir name.now }
-        requires fits { dir < 2 ^ 48 }
+        requires fits { dir < DIRECTORIES }
         ensures ok { IfOk result (λ plan. IsPlanOf (record { node = self.now; rows = R.contents rows.old }) (serve_ask (record { node = self.now; rows = R.contents rows.old }) ask.now now) plan) }
         ensures rows { R.contents rows.new ≡ R.contents rows.old }
         ensures cause { HasRowsCause (R.faults rows.old) (R.faults rows.new) result }
@@ -361,7 +354,7 @@ impl Node {
     fn heads(&self, format: u8, servers: u32, server: u32, threshold: u32) -> bool
         ensures { result ≡ is_head self.now format servers server threshold }
     {
-        (self.next == u64::from(self.server) * (1 << 40) + 2 && is_bare(&self.parts))
+        (self.next == u64::from(self.server) * SERVER_DIRECTORIES + 2 && is_bare(&self.parts))
             && ((format == 1 && servers == self.setup.servers)
                 && (server == self.server && threshold == self.setup.threshold))
     }
@@ -376,33 +369,17 @@ impl Node {
         call: &Call,
         said: Final,
     ) -> Result<bool, RowsFault>
-        requires fits { dir_of call.now < 2 ^ 48 }
+        requires fits { dir_of call.now < DIRECTORIES }
         ensures ok { IfOk result (λ follows. IsReplayed (record { node = self.old; rows = R.contents rows.old }) (Record.Served client seq part call.now said) self.new (R.contents rows.new) follows) }
         ensures err { OnErr result ((self.new ≡ self.old) × (R.contents rows.new ≡ R.contents rows.old)) }
         ensures cause { HasRowsCause (R.faults rows.old) (R.faults rows.new) result }
     {
-        match call {
-            Call::Create { dir, name } => {
-                self.redo_at(alloc, rows, client, seq, part, call, said, *dir, name)
+        match asks_of(call) {
+            Asks::Change { dir, name } => {
+                self.redo_at(alloc, rows, client, seq, part, call, said, dir, name)
             }
-            Call::Mkdir { dir, name } => {
-                self.redo_at(alloc, rows, client, seq, part, call, said, *dir, name)
-            }
-            Call::Remove { dir, name } => {
-                self.redo_at(alloc, rows, client, seq, part, call, said, *dir, name)
-            }
-            Call::Setattr { dir, name, .. } => {
-                self.redo_at(alloc, rows, client, seq, part, call, said, *dir, name)
-            }
-            Call::Lookup { .. } => Ok(false),
-            Call::Scan { .. } => Ok(false),
-            Call::Grab { .. } => Ok(false),
-            Call::Load { .. } => Ok(false),
-            Call::Link { .. } => Ok(false),
-            Call::Seal { .. } => Ok(false),
-            Call::Unseal { .. } => Ok(false),
-            Call::Kill { .. } => Ok(false),
-            Call::Unlink { .. } => Ok(false),
+            Asks::Look { .. } => Ok(false),
+            Asks::NothingYet => Ok(false),
         }
     }
 
@@ -419,7 +396,7 @@ impl Node {
         name: &Name,
     ) -> Result<bool, RowsFault>
         requires asked { asked_of call.now ≡ ChangeOf dir name.now }
-        requires fits { dir < 2 ^ 48 }
+        requires fits { dir < DIRECTORIES }
         ensures ok { IfOk result (λ follows. IsReplayed (record { node = self.old; rows = R.contents rows.old }) (Record.Served client seq part call.now said) self.new (R.contents rows.new) follows) }
         ensures err { OnErr result ((self.new ≡ self.old) × (R.contents rows.new ≡ R.contents rows.old)) }
         ensures cause { HasRowsCause (R.faults rows.old) (R.faults rows.new) result }
@@ -447,7 +424,7 @@ impl Node {
     }
 
     fn may_carry(&self, dir: u64, client: u32, seq: u64, part: u32) -> bool
-        requires { dir < 2 ^ 48 }
+        requires { dir < DIRECTORIES }
         ensures { result ≡ may_carry self.now dir client seq part }
     {
         part == 0
@@ -461,30 +438,19 @@ impl Node {
     pub fn before(&self, msg: &Msg) -> Option<Undo>
         ensures { result ≡ before self.now msg.now }
     {
-        match msg {
-            Msg::Request { ask, .. } => match &ask.call {
-                Call::Create { dir, .. } => Some(self.before_in(*dir, ask.client)),
-                Call::Mkdir { dir, .. } => Some(self.before_in(*dir, ask.client)),
-                Call::Remove { dir, .. } => Some(self.before_in(*dir, ask.client)),
-                Call::Setattr { dir, .. } => Some(self.before_in(*dir, ask.client)),
-                Call::Lookup { .. } => None,
-                Call::Scan { .. } => None,
-                Call::Grab { .. } => None,
-                Call::Load { .. } => None,
-                Call::Link { .. } => None,
-                Call::Seal { .. } => None,
-                Call::Unseal { .. } => None,
-                Call::Kill { .. } => None,
-                Call::Unlink { .. } => None,
-            },
-            Msg::Redirect { .. } => None,
-            Msg::Answer { .. } => None,
-            Msg::Busy { .. } => None,
-            Msg::Held { .. } => None,
-            Msg::Page { .. } => None,
-            Msg::Closed { .. } => None,
-            Msg::Transfer { .. } => None,
-            Msg::Installed { .. } => None,
+        match request_in(msg) {
+            None => None,
+            Some(ask) => self.before_ask(ask),
+        }
+    }
+
+    fn before_ask(&self, ask: &Ask) -> Option<Undo>
+        ensures { result ≡ before_asked self.now ask.now.client (asked_of ask.now.call) }
+    {
+        match asks_of(&ask.call) {
+            Asks::Change { dir, .. } => Some(self.before_in(dir, ask.client)),
+            Asks::Look { .. } => None,
+            Asks::NothingYet => None,
         }
     }
 
@@ -533,7 +499,7 @@ impl Node {
     pub fn has_numbers(&self) -> bool
         ensures { result ≡ has_numbers self.now }
     {
-        self.next <= (u64::from(self.server) + 1) * (1 << 40) - (1 << 18)
+        self.next <= (u64::from(self.server) + 1) * SERVER_DIRECTORIES - SERVE_DIRECTORIES
     }
 
     /// Sets what a restart sets: nothing yet, since there are no leases.
@@ -564,7 +530,7 @@ impl Node {
     }
 
     fn owns(&self, dir: u64) -> bool
-        requires { dir < 2 ^ 48 }
+        requires { dir < DIRECTORIES }
         ensures { result ≡ owns self.now dir 0 }
     {
         zeroth(dir, self.setup.servers) == self.server

@@ -1,10 +1,11 @@
 -- Records that follow one another: what their spellings begin with, and where they lead.
-use Rattle.std.proofs.Common.{◌≡◌, ◌≢◌, ◌∙◌, sym, ap, subst, refl, ℕ, ◌+◌, ◌-◌, ◌<◌, ◌≤◌, ◌^◌, List, [], ◌∷◌, ◌++◌, length, take, drop, arith, true, false, Option, Some, None, Ok, Err}
+use Rattle.std.proofs.Common.{◌≡◌, ◌≢◌, ◌∙◌, sym, ap, subst, refl, ℕ, ◌+◌, ◌-◌, ◌<◌, ◌≤◌, List, [], ◌∷◌, ◌++◌, length, take, drop, arith, true, false, Option, Some, None, Ok, Err}
 use Rattle.std.specs.List.{AllByRecursion, flat_map}
 use Rattle.std.proofs.lemmas.Bool.{and_from}
 use Rattle.std.proofs.lemmas.List.{append-nil, length-append, length-drop, length-take-le, take_at, take_all, take-append-drop}
 use Rattle.std.proofs.Math.Seq.{take-add}
 use Rattle.std.proofs.lemmas.Grind.{flat_map-append}
+use Rattle.mds_base.specs.declared.limits.TheConstants.{DIRECTORIES}
 use Rattle.mds_base.specs.RowKeys.{RowMap}
 use Rattle.mds_base.specs.declared.call.Call.{Call}
 use Rattle.mds_base.specs.declared.store_fault.Head.{Head}
@@ -109,7 +110,7 @@ nothing_follows store bytes none item more is parts follows = none item more is 
 
 -- ---- which records a node replays
 
-call_fits : (call : Call) → IsChange call → dir_of call < 2 ^ 48
+call_fits : (call : Call) → IsChange call → dir_of call < DIRECTORIES
 call_fits (Create dir name) change = change.0.1
 call_fits (Mkdir dir name) change = change.0.1
 call_fits (Remove dir name) change = change.0.1

@@ -1,5 +1,5 @@
 -- A server on a disk: what its parts say of it.
-use Rattle.std.proofs.Common.{◌≡◌, ◌∙◌, sym, ap, subst, refl, ℕ, List, [], Bool, true, false, cond, Option, Some, None, inl, inr, IsTrue}
+use Rattle.std.proofs.Common.{◌≡◌, ◌∙◌, sym, ap, subst, refl, ℕ, List, [], Bool, true, false, cond, Option, Some, None, Ok, inl, inr, IsTrue, arith}
 use Rattle.mds_base.specs.declared.setup.Setup.{Setup}
 use Rattle.records.specs.declared.record.Record.{Record}
 use Rattle.gate_log.specs.Log.{HoldsLog}
@@ -7,8 +7,10 @@ use Rattle.gate_log.specs.LogState as logs
 use Rattle.gate_log.specs.LogState.{LogState}
 use Rattle.mds_out.specs.Disk.{Image, Contents, Lengths, LeavesOnly}
 use Rattle.mds_out.specs.Known.{OnTold}
-use Rattle.mds_out.proofs.Moments.{started}
+use Rattle.mds_out.proofs.Moments.{started, both}
+use Rattle.gate_log.proofs.Scans.{unchanged_twice, same_twice}
 use Rattle.node_core.specs.Nodes.{StoreV}
+use Rattle.node_store.specs.Disks.{IsStoreReading}
 use Rattle.node_store.specs.Stands.{FileStandsFor, opened_store}
 use Rattle.node_store.specs.Store.{Store, HoldsStore, IsKept, LeavesDoubt, IsDownAt, KeepsStore, StandsForEither}
 
@@ -85,3 +87,17 @@ pub opened_told : (told : Option (List ℕ)) (server : ℕ) (setup : Setup) (new
     → OnTold told (λ bytes. (store : StoreV) × FileStandsFor server setup bytes store × (Some new ≡ Some (opened_store store)))
 opened_told None server setup new opened = tt
 opened_told (Some bytes) server setup new opened = (opened.0, opened.1, ap (λ (s : StoreV). Some s) opened.2)
+
+-- calls that change nothing, and one more
+pub reads_on : {D T U : Type 0} {seen : D → Contents} {sizes : D → Lengths} {images : D → Image → Type 0} {moment : D → ℕ} {since : D → ℕ → Image → Type 0} {faults changes : D → ℕ} {lasts fails : D → D → Type 0}
+    {a b c : D} {x : T} {y : U} → ((a b c : D) → lasts a b → lasts b c → lasts a c) → IsStoreReading seen sizes images moment since faults changes lasts fails a b (Ok x)
+    → IsStoreReading seen sizes images moment since faults changes lasts fails b c (Ok y) → IsStoreReading {T = Unit {0}} seen sizes images moment since faults changes lasts fails a c (Ok tt)
+reads_on {seen = seen} {sizes = sizes} {images = images} {moment = moment} {since = since} {faults = faults} {a = a} {b = b} {c = c} lasts_on first second = record {
+  unchanged = unchanged_twice (seen a) (seen b) (seen c) (sizes a) (sizes b) (sizes c) first.unchanged second.unchanged;
+  crash = same_twice (images a) (images b) (images c) first.crash second.crash;
+  any_moment = both moment since a b c (images a) (images b) (images a) first.any_moment second.any_moment (λ image is. is) first.crash.no_other;
+  cause = record { later = omega (arith, first.cause.later, second.cause.later); device = λ is. cc; other = tt; kept = second.cause.kept ∙ first.cause.kept };
+  lasts = lasts_on a b c first.lasts second.lasts;
+  failed = λ is. cc;
+  changes = second.changes ∙ first.changes;
+}

@@ -1,4 +1,5 @@
 pub mod Damage
+pub mod Disks
 pub mod Opening
 pub mod Parts
 pub mod Reading

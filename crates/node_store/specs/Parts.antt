@@ -1,5 +1,6 @@
 -- What is known of the parts of a server on a disk.
 use Rattle.std.specs.Prelude.{◌≡◌, ℕ, ◌≤◌, true, List, []}
+use Rattle.mds_base.specs.declared.limits.TheConstants.{LEASE_MOST}
 use Rattle.mds_base.specs.declared.setup.Setup.{Setup}
 use Rattle.records.specs.declared.record.Record.{Record}
 use Rattle.records.specs.Spelling.{IsHead}
@@ -12,7 +13,7 @@ use Rattle.node_store.specs.Store.{IsKept}
 -- the number of a server and its setup are in their ranges
 pub record IsServer (server : ℕ) (setup : Setup) : Type 0 where
   pub head : IsHead 1 setup.servers server setup.threshold
-  pub lease : setup.lease ≤ 1000000
+  pub lease : setup.lease ≤ LEASE_MOST
 
 -- the node is that of the server, and gives directory numbers from two on
 pub record IsNodeOf (server : ℕ) (setup : Setup) (node : NodeV) : Type 0 where

@@ -1,4 +1,6 @@
 ghost use Rattle.std.specs.Prelude.{◌≡◌, ◌≢◌, ◌^◌, ◌<◌, ◌≤◌, ℕ, ◌⊎◌, [], None, Some, true, IfOk, IfErr, OnOk, OnErr, IsErrOf, MatchResult, IsTrue, ◌↔◌};
+ghost use Rattle.std.specs.List.{slice_get};
+ghost use Rattle.mds_base.specs.declared.limits.TheConstants.{LEASE_MOST, MOMENTS};
 ghost use Rattle.mds_base.specs.declared.store_fault.StoreFault.TheVariants as StoreFault;
 ghost use Rattle.records.specs.declared.msg.Msg.{Msg};
 ghost use Rattle.records.specs.Spelling.{IsHead};
@@ -11,7 +13,8 @@ ghost use Rattle.node_store.specs.Parts.{IsNodeOf};
 ghost use Rattle.node_store.specs.Reading.{IsRefusal, IsBad};
 ghost use Rattle.node_store.specs.Refused.{IsServeFault};
 ghost use Rattle.node_store.specs.Stands.{FileStandsFor, opened_store};
-ghost use Rattle.node_store.specs.Serve.{IsMessage, IsOneMessage, HasServed, HasStopped, HasStoreCause};
+ghost use Rattle.node_store.specs.Serve.{IsMessage, IsOneMessage, HasServed, HasStopped};
+ghost use Rattle.node_store.specs.Disks.{IsStoreChanging};
 ghost use Rattle.node_store.specs.Store.{KeepsStore, StandsForEither, LeavesOpened, IsDownAt};
 
 use crate::opening::open_on;
@@ -21,7 +24,7 @@ use gate_log::GateLog;
 use mds_base::{MapRows, Setup, StoreFault};
 use mds_out::Disk;
 use node_core::Node;
-use records::{Handled, Msg, RecordList};
+use records::{Handled, Msg, MsgList, RecordList};
 use std::alloc::Global;
 use std::marker::Model;
 
@@ -74,7 +77,7 @@ impl<D: Disk> NodeStore<D> {
         setup: Setup,
     ) -> Result<NodeStore<D>, Refused<D>>
         requires head { IsHead 1 setup.servers server setup.threshold }
-        requires lease { setup.lease ≤ 1000000 }
+        requires lease { setup.lease ≤ LEASE_MOST }
         ensures named { IfOk result (λ s. (s.server ≡ server) × (s.setup ≡ setup)) }
 
         // The server is up with the store that the disk's bytes stand for, opened, and the disk keeps it.
@@ -158,7 +161,7 @@ impl<D: Disk> NodeStore<D> {
     fn serve(&mut self, alloc: Global, msg: &Msg, now: u64) -> Result<Handled, StoreFault>
         requires up { (store : StoreV) × (self.old.up ≡ Some store) × (has_numbers store.node ≡ true) }
         requires made { IsMessage msg.now }
-        requires moment { now < 2 ^ 43 }
+        requires moment { now < MOMENTS }
         ensures served { IfOk result (λ handled. (store : StoreV) → self.old.up ≡ Some store → HasServed (serve store msg.now now) self.new.up handled) }
         ensures sure { OnOk result (self.new.doubt ≡ []) }
         ensures keeps { OnOk result ((store : StoreV) → self.new.up ≡ Some store → OnTold (D.seen self.new.disk 1) (λ _. KeepsStore (D.images self.new.disk) self.new.server self.new.setup store)) }
@@ -169,9 +172,7 @@ impl<D: Disk> NodeStore<D> {
         ensures fault { IfErr result IsServeFault }
         ensures same { (self.new.server ≡ self.old.server) × (self.new.setup ≡ self.old.setup) }
         ensures told { StaysTold (D.seen self.old.disk 1) (D.seen self.new.disk 1) }
-        ensures cause { HasStoreCause (D.faults self.old.disk) (D.faults self.new.disk) result }
-        ensures lasts { D.lasts self.old.disk self.new.disk }
-        ensures failed { IsErrOf result StoreFault.Device → D.fails self.old.disk self.new.disk }
+        ensures call { IsStoreChanging D.faults D.lasts D.fails self.old.disk self.new.disk result }
     {
         match serve_on(
             alloc,
@@ -192,44 +193,63 @@ impl<D: Disk> NodeStore<D> {
         }
     }
 
-    /// Serves one message; its changes are one body of records and one append. It takes its memory first.
+    /// Serves one message, that at the one place of a list; its changes are one body of records and one append. It takes
+    /// its memory first.
     ///
     /// After `Device`, or a disk's want of memory, the server is down and the records are in doubt; after its own want
     /// of memory nothing has changed. The room is not counted yet.
     pub fn serve_batch(
         &mut self,
         alloc: Global,
-        msgs: &[Msg],
+        msgs: &MsgList,
+        places: &[u64],
         now: u64,
         room: u64,
     ) -> Result<Handled, StoreFault>
         requires up { (store : StoreV) × (self.old.up ≡ Some store) × (has_numbers store.node ≡ true) }
-        requires one { (msg : Msg) × IsOneMessage msgs.now msg }
-        requires moment { now < 2 ^ 43 }
-        ensures served { IfOk result (λ handled. (msg : Msg) → (store : StoreV) → IsOneMessage msgs.now msg → self.old.up ≡ Some store → HasServed (serve store msg now) self.new.up handled) }
+        requires one { (msg : Msg) × IsOneMessage msgs.now places.now msg }
+        requires moment { now < MOMENTS }
+        ensures served { IfOk result (λ handled. (msg : Msg) → (store : StoreV) → IsOneMessage msgs.now places.now msg → self.old.up ≡ Some store → HasServed (serve store msg now) self.new.up handled) }
         ensures sure { OnOk result (self.new.doubt ≡ []) }
 
         // After Ok the disk keeps the new store.
         ensures keeps { OnOk result ((store : StoreV) → self.new.up ≡ Some store → OnTold (D.seen self.new.disk 1) (λ _. KeepsStore (D.images self.new.disk) self.new.server self.new.setup store)) }
 
         // A crash at any moment of the call leaves the old store, or the one with the records.
-        ensures any_moment { (msg : Msg) → (store : StoreV) → IsOneMessage msgs.now msg → self.old.up ≡ Some store
+        ensures any_moment { (msg : Msg) → (store : StoreV) → IsOneMessage msgs.now places.now msg → self.old.up ≡ Some store
             → OnTold (D.seen self.old.disk 1) (λ _. LeavesOnly D.moment D.images_since self.old.disk self.new.disk (StandsForEither self.old.server self.old.setup store (serve store msg now).store)) }
 
         // A refusal leaves all as it was, or the server down with the records in doubt.
-        ensures refused { OnErr result ((msg : Msg) → (store : StoreV) → IsOneMessage msgs.now msg → self.old.up ≡ Some store → (self.new ≡ self.old) ⊎ HasStopped D.seen D.images self.new store (serve store msg now).records) }
+        ensures refused { OnErr result ((msg : Msg) → (store : StoreV) → IsOneMessage msgs.now places.now msg → self.old.up ≡ Some store → (self.new ≡ self.old) ⊎ HasStopped D.seen D.images self.new store (serve store msg now).records) }
         ensures down { IsErrOf result StoreFault.Device → self.new.up ≡ None }
         ensures fault { IfErr result IsServeFault }
         ensures same { (self.new.server ≡ self.old.server) × (self.new.setup ≡ self.old.setup) }
         ensures told { StaysTold (D.seen self.old.disk 1) (D.seen self.new.disk 1) }
-        ensures cause { HasStoreCause (D.faults self.old.disk) (D.faults self.new.disk) result }
-        ensures lasts { D.lasts self.old.disk self.new.disk }
-        ensures failed { IsErrOf result StoreFault.Device → D.fails self.old.disk self.new.disk }
+        ensures call { IsStoreChanging D.faults D.lasts D.fails self.old.disk self.new.disk result }
     {
         let _room = room;
-        match msgs {
-            [msg] => self.serve(alloc, msg, now),
-            _ => unreachable!(),
-        }
+        let msg = one_of(msgs, places);
+        self.serve(alloc, msg, now)
+    }
+}
+
+// The message at the one place.
+fn one_of<'a>(msgs: &'a MsgList, places: &[u64]) -> &'a Msg
+    requires { (msg : Msg) × IsOneMessage msgs.now places.now msg }
+    ensures { (msg : Msg) → IsOneMessage msgs.now places.now msg → result.now ≡ msg }
+{
+    match places {
+        [place] => at(msgs, *place),
+        _ => unreachable!(),
+    }
+}
+
+fn at(msgs: &MsgList, place: u64) -> &Msg
+    requires { (msg : Msg) × (slice_get msgs.now place ≡ Some msg) }
+    ensures { Some result.now ≡ slice_get msgs.now place }
+{
+    match msgs.get(place as usize) {
+        Some(msg) => msg,
+        None => unreachable!(),
     }
 }

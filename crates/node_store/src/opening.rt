@@ -1,5 +1,6 @@
 //! Opening a server's disk: its log is made or read, and the new run is begun.
-ghost use Rattle.std.specs.Prelude.{◌≡◌, ◌≤◌, ◌<◌, ◌^◌, ℕ, List, ◌++◌, map, length, IfOk, IfErr, OnOk, IsErrOf};
+ghost use Rattle.std.specs.Prelude.{◌≡◌, ◌≤◌, ◌<◌, ◌^◌, ℕ, List, ◌++◌, map, length, IfOk, IfErr, OnOk};
+ghost use Rattle.mds_base.specs.declared.limits.TheConstants.{LEASE_MOST};
 ghost use Rattle.mds_base.specs.declared.setup.Setup.{Setup};
 ghost use Rattle.mds_base.specs.declared.store_fault.StoreFault.{StoreFault};
 ghost use Rattle.mds_out.specs.Disk.{Image, LeavesOnly, IsUnchanged, StaysTold};
@@ -9,7 +10,7 @@ ghost use Rattle.node_core.specs.Nodes.{StoreV};
 ghost use Rattle.node_store.specs.Opening.{StandAlike, IsAsBefore, IsOpenLog};
 ghost use Rattle.node_store.specs.Parts.{IsNodeOf};
 ghost use Rattle.node_store.specs.Reading.{IsRefusal, IsBad};
-ghost use Rattle.node_store.specs.Serve.{HasStoreCause};
+ghost use Rattle.node_store.specs.Disks.{IsStoreChanging};
 ghost use Rattle.node_store.specs.Stands.{FileStandsFor, opened_store};
 ghost use Rattle.node_store.specs.Store.{IsKept, KeepsAny, StandsForAny, StandsForEither};
 
@@ -31,7 +32,7 @@ pub(crate) fn open_on<D: Disk>(
     setup: Setup,
 ) -> Result<(GateLog, Node, MapRows), StoreFault>
     requires head { IsHead 1 setup.servers server setup.threshold }
-    requires lease { setup.lease ≤ 1000000 }
+    requires lease { setup.lease ≤ LEASE_MOST }
 
     // The store that the disk's bytes stand for was opened, and the disk keeps it.
     ensures opened { IfOk result (λ x. OnTold (D.seen disk.old 1) (λ bytes. (store : StoreV) × FileStandsFor server setup bytes store × (record { node = x.1; rows = x.2 } ≡ opened_store store))) }
@@ -45,9 +46,7 @@ pub(crate) fn open_on<D: Disk>(
     // `Damaged` tells what is wrong with file 1; `Stopped` and `Room` never come.
     ensures refused { IfErr result (IsRefusal (IsBad server setup) (D.seen disk.old 1)) }
     ensures told { StaysTold (D.seen disk.old 1) (D.seen disk.new 1) }
-    ensures cause { HasStoreCause (D.faults disk.old) (D.faults disk.new) result }
-    ensures lasts { D.lasts disk.old disk.new }
-    ensures failed { IsErrOf result StoreFault.Device → D.fails disk.old disk.new }
+    ensures call { IsStoreChanging D.faults D.lasts D.fails disk.old disk.new result }
 {
     let mut log = bring_log(disk)?;
     let (mut node, mut rows) = bring_store(alloc, disk, &mut log, server, setup)?;
@@ -62,9 +61,7 @@ fn bring_log<D: Disk>(disk: &mut D) -> Result<GateLog, StoreFault>
     ensures any_moment { (server : ℕ) → (setup : Setup) → OnTold (D.seen disk.old 1) (λ bytes. LeavesOnly D.moment D.images_since disk.old disk.new (IsAsBefore server setup (D.images disk.old) bytes)) }
     ensures refused { IfErr result (λ fault. (server : ℕ) → (setup : Setup) → IsRefusal (IsBad server setup) (D.seen disk.old 1) fault) }
     ensures told { StaysTold (D.seen disk.old 1) (D.seen disk.new 1) }
-    ensures cause { HasStoreCause (D.faults disk.old) (D.faults disk.new) result }
-    ensures lasts { D.lasts disk.old disk.new }
-    ensures failed { IsErrOf result StoreFault.Device → D.fails disk.old disk.new }
+    ensures call { IsStoreChanging D.faults D.lasts D.fails disk.old disk.new result }
 {
     if synced_length(disk)? < 2 {
         make_log(disk)
@@ -81,9 +78,7 @@ fn synced_length<D: Disk>(disk: &mut D) -> Result<u64, StoreFault>
     ensures any_moment { LeavesOnly D.moment D.images_since disk.old disk.new (D.images disk.old) }
     ensures unchanged { IsUnchanged (D.seen disk.old) (D.seen disk.new) (D.sizes disk.old) (D.sizes disk.new) }
     ensures refused { IfErr result (IsRefusal (λ place damage bytes. ⊥) (D.seen disk.old 1)) }
-    ensures cause { HasStoreCause (D.faults disk.old) (D.faults disk.new) result }
-    ensures lasts { D.lasts disk.old disk.new }
-    ensures failed { IsErrOf result StoreFault.Device → D.fails disk.old disk.new }
+    ensures call { IsStoreChanging D.faults D.lasts D.fails disk.old disk.new result }
 {
     match disk.sync(1) {
         Ok(()) => match disk.length(1) {
@@ -103,9 +98,7 @@ fn make_log<D: Disk>(disk: &mut D) -> Result<GateLog, StoreFault>
     ensures any_moment { (server : ℕ) → (setup : Setup) → OnTold (D.seen disk.old 1) (λ bytes. LeavesOnly D.moment D.images_since disk.old disk.new (IsAsBefore server setup (D.images disk.old) bytes)) }
     ensures refused { IfErr result (IsRefusal (λ place damage bytes. ⊥) (D.seen disk.old 1)) }
     ensures told { StaysTold (D.seen disk.old 1) (D.seen disk.new 1) }
-    ensures cause { HasStoreCause (D.faults disk.old) (D.faults disk.new) result }
-    ensures lasts { D.lasts disk.old disk.new }
-    ensures failed { IsErrOf result StoreFault.Device → D.fails disk.old disk.new }
+    ensures call { IsStoreChanging D.faults D.lasts D.fails disk.old disk.new result }
 {
     match GateLog::create(disk, 1) {
         Ok(log) => Ok(log),
@@ -120,9 +113,7 @@ fn find_log<D: Disk>(disk: &mut D) -> Result<GateLog, StoreFault>
     ensures unchanged { IsUnchanged (D.seen disk.old) (D.seen disk.new) (D.sizes disk.old) (D.sizes disk.new) }
     ensures any_moment { LeavesOnly D.moment D.images_since disk.old disk.new (D.images disk.old) }
     ensures refused { IfErr result (λ fault. (server : ℕ) → (setup : Setup) → IsRefusal (IsBad server setup) (D.seen disk.old 1) fault) }
-    ensures cause { HasStoreCause (D.faults disk.old) (D.faults disk.new) result }
-    ensures lasts { D.lasts disk.old disk.new }
-    ensures failed { IsErrOf result StoreFault.Device → D.fails disk.old disk.new }
+    ensures call { IsStoreChanging D.faults D.lasts D.fails disk.old disk.new result }
 {
     match GateLog::open_file(disk, 1) {
         Ok(log) => Ok(log),
@@ -139,7 +130,7 @@ fn bring_store<D: Disk>(
     setup: Setup,
 ) -> Result<(Node, MapRows), StoreFault>
     requires head { IsHead 1 setup.servers server setup.threshold }
-    requires lease { setup.lease ≤ 1000000 }
+    requires lease { setup.lease ≤ LEASE_MOST }
     requires is_open { IsOpenLog log.old (D.seen disk.old) (D.sizes disk.old) (D.images disk.old) }
     ensures kept { IfOk result (λ x. IsKept (D.seen disk.new) (D.sizes disk.new) (D.images disk.new) server setup log.new (record { node = x.0; rows = x.1 })) }
     ensures stands { IfOk result (λ x. OnTold (D.seen disk.old 1) (λ bytes. FileStandsFor server setup bytes (record { node = x.0; rows = x.1 }))) }
@@ -147,9 +138,7 @@ fn bring_store<D: Disk>(
     ensures any_moment { OnTold (D.seen disk.old 1) (λ bytes. LeavesOnly D.moment D.images_since disk.old disk.new (IsAsBefore server setup (D.images disk.old) bytes)) }
     ensures refused { IfErr result (IsRefusal (IsBad server setup) (D.seen disk.old 1)) }
     ensures told { StaysTold (D.seen disk.old 1) (D.seen disk.new 1) }
-    ensures cause { HasStoreCause (D.faults disk.old) (D.faults disk.new) result }
-    ensures lasts { D.lasts disk.old disk.new }
-    ensures failed { IsErrOf result StoreFault.Device → D.fails disk.old disk.new }
+    ensures call { IsStoreChanging D.faults D.lasts D.fails disk.old disk.new result }
 {
     if log.length() == 1 {
         begin_log(alloc, disk, log, server, setup)
@@ -167,7 +156,7 @@ fn begin_log<D: Disk>(
     setup: Setup,
 ) -> Result<(Node, MapRows), StoreFault>
     requires head { IsHead 1 setup.servers server setup.threshold }
-    requires lease { setup.lease ≤ 1000000 }
+    requires lease { setup.lease ≤ LEASE_MOST }
     requires is_open { IsOpenLog log.old (D.seen disk.old) (D.sizes disk.old) (D.images disk.old) }
     requires empty { log.old.length ≡ 1 }
     ensures kept { IfOk result (λ x. IsKept (D.seen disk.new) (D.sizes disk.new) (D.images disk.new) server setup log.new (record { node = x.0; rows = x.1 })) }
@@ -176,9 +165,7 @@ fn begin_log<D: Disk>(
     ensures any_moment { OnTold (D.seen disk.old 1) (λ bytes. LeavesOnly D.moment D.images_since disk.old disk.new (IsAsBefore server setup (D.images disk.old) bytes)) }
     ensures refused { IfErr result (IsRefusal (λ place damage bytes. ⊥) (D.seen disk.old 1)) }
     ensures told { StaysTold (D.seen disk.old 1) (D.seen disk.new 1) }
-    ensures cause { HasStoreCause (D.faults disk.old) (D.faults disk.new) result }
-    ensures lasts { D.lasts disk.old disk.new }
-    ensures failed { IsErrOf result StoreFault.Device → D.fails disk.old disk.new }
+    ensures call { IsStoreChanging D.faults D.lasts D.fails disk.old disk.new result }
 {
     let head = Record::Head {
         format: 1,
@@ -209,9 +196,7 @@ fn begin_run<D: Disk>(
         → OnTold (D.seen disk.old 1) (λ _. LeavesOnly D.moment D.images_since disk.old disk.new (StandsForEither server setup (record { node = node.old; rows = rows.old }) (opened_store (record { node = node.old; rows = rows.old })))) }
     ensures refused { IfErr result (IsRefusal (λ place damage bytes. ⊥) (D.seen disk.old 1)) }
     ensures told { StaysTold (D.seen disk.old 1) (D.seen disk.new 1) }
-    ensures cause { HasStoreCause (D.faults disk.old) (D.faults disk.new) result }
-    ensures lasts { D.lasts disk.old disk.new }
-    ensures failed { IsErrOf result StoreFault.Device → D.fails disk.old disk.new }
+    ensures call { IsStoreChanging D.faults D.lasts D.fails disk.old disk.new result }
 {
     let piece = piece(alloc, &Record::Opened)?;
     if log.length() > LONGEST {

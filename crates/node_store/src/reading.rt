@@ -1,13 +1,13 @@
 //! Reading a server's log: its head, and then body by body and record by record.
-ghost use Rattle.std.specs.Prelude.{◌≡◌, ◌+◌, ◌^◌, ◌<◌, ◌≤◌, ℕ, List, false, length, IfOk, IfErr, OnOk, IsErrOf, IfSome, MatchOption};
+ghost use Rattle.std.specs.Prelude.{◌≡◌, ◌+◌, ◌^◌, ◌<◌, ◌≤◌, ℕ, List, false, length, IfOk, IfErr, OnOk, IfSome, MatchOption};
+ghost use Rattle.mds_base.specs.declared.limits.TheConstants.{LEASE_MOST};
 ghost use Rattle.mds_base.specs.declared.setup.Setup.{Setup};
-ghost use Rattle.mds_out.specs.Disk.{LeavesOnly, IsUnchanged, AreSame};
 ghost use Rattle.mds_out.specs.Known.{OnTold};
 ghost use Rattle.records.specs.Spelling.{IsHead};
 ghost use Rattle.gate_log.specs.Calls.{IsSomeGate, HasRead, ReadsOn};
 ghost use Rattle.gate_log.specs.LogState.{IsReady};
 ghost use Rattle.node_store.specs.Parts.{IsNodeOf};
-ghost use Rattle.node_store.specs.Serve.{HasStoreCause};
+ghost use Rattle.node_store.specs.Disks.{IsStoreReading};
 ghost use Rattle.node_store.specs.Stands.{new_store};
 ghost use Rattle.node_store.specs.Store.{HoldsStore};
 ghost use Rattle.node_store.specs.Reading.{TakesFirst, IsBodyRead, IsHeadRead, IsHeadFound, IsHeadOf, IsFrontOf, HasReplayed, ReplaysOn, IsRefusal, IsBad, store_fault_of, disk_fault_of};
@@ -29,7 +29,7 @@ pub(crate) fn read_log<D: Disk>(
     setup: Setup,
 ) -> Result<(Node, MapRows), StoreFault>
     requires head { IsHead 1 setup.servers server setup.threshold }
-    requires lease { setup.lease ≤ 1000000 }
+    requires lease { setup.lease ≤ LEASE_MOST }
     requires file { log.old.file ≡ 1 }
     requires running { log.old.stopped ≡ false }
     requires ready { IsReady log.old (D.seen disk.old) (D.sizes disk.old) (D.images disk.old) }
@@ -38,14 +38,9 @@ pub(crate) fn read_log<D: Disk>(
     ensures read { IfOk result (λ x. OnTold (D.seen disk.old 1) (HoldsStore server setup log.old (record { node = x.0; rows = x.1 }))) }
     ensures node { IfOk result (λ x. IsNodeOf server setup x.0) }
     ensures refused { IfErr result (IsRefusal (IsBad server setup) (D.seen disk.old 1)) }
-    ensures unchanged { IsUnchanged (D.seen disk.old) (D.seen disk.new) (D.sizes disk.old) (D.sizes disk.new) }
-    ensures crash { AreSame (D.images disk.old) (D.images disk.new) }
-    ensures any_moment { LeavesOnly D.moment D.images_since disk.old disk.new (D.images disk.old) }
     ensures same { OnOk result (log.new ≡ log.old) }
     ensures ready { OnOk result (IsReady log.old (D.seen disk.new) (D.sizes disk.new) (D.images disk.new)) }
-    ensures cause { HasStoreCause (D.faults disk.old) (D.faults disk.new) result }
-    ensures lasts { D.lasts disk.old disk.new }
-    ensures failed { IsErrOf result StoreFault.Device → D.fails disk.old disk.new }
+    ensures call { IsStoreReading D.seen D.sizes D.images D.moment D.images_since D.faults D.changes_asked D.lasts D.fails disk.old disk.new result }
 {
     let mut body = Vec::new(alloc);
     let mut gate = read_first(alloc, disk, log, server, setup, &mut body)?;
@@ -76,14 +71,9 @@ fn read_first<D: Disk>(
     ensures gate { IfOk result (λ next. OnTold (D.seen disk.new log.old.file) (IsSomeGate log.old next)) }
     ensures within { IfOk result (λ next. next < log.old.length) }
     ensures refused { IfErr result (IsRefusal (IsBad server setup) (D.seen disk.old log.old.file)) }
-    ensures unchanged { IsUnchanged (D.seen disk.old) (D.seen disk.new) (D.sizes disk.old) (D.sizes disk.new) }
-    ensures crash { AreSame (D.images disk.old) (D.images disk.new) }
-    ensures any_moment { LeavesOnly D.moment D.images_since disk.old disk.new (D.images disk.old) }
     ensures same { OnOk result (log.new ≡ log.old) }
     ensures ready { OnOk result (IsReady log.old (D.seen disk.new) (D.sizes disk.new) (D.images disk.new)) }
-    ensures cause { HasStoreCause (D.faults disk.old) (D.faults disk.new) result }
-    ensures lasts { D.lasts disk.old disk.new }
-    ensures failed { IsErrOf result StoreFault.Device → D.fails disk.old disk.new }
+    ensures call { IsStoreReading D.seen D.sizes D.images D.moment D.images_since D.faults D.changes_asked D.lasts D.fails disk.old disk.new result }
 {
     let Some(next) = next_body(disk, log, 0, body)? else {
         unreachable!()
@@ -120,14 +110,9 @@ fn replay_at<D: Disk>(
     ensures node { OnOk result ((server : ℕ) → (setup : Setup) → IsNodeOf server setup node.old → IsNodeOf server setup node.new) }
     ensures refused { IfErr result (λ fault. (server : ℕ) → (setup : Setup) → OnTold (D.seen disk.old log.old.file) (HasReplayed server setup log.old at (record { node = node.old; rows = rows.old }))
         → IsRefusal (IsBad server setup) (D.seen disk.old log.old.file) fault) }
-    ensures unchanged { IsUnchanged (D.seen disk.old) (D.seen disk.new) (D.sizes disk.old) (D.sizes disk.new) }
-    ensures crash { AreSame (D.images disk.old) (D.images disk.new) }
-    ensures any_moment { LeavesOnly D.moment D.images_since disk.old disk.new (D.images disk.old) }
     ensures same { OnOk result (log.new ≡ log.old) }
     ensures ready { OnOk result (IsReady log.old (D.seen disk.new) (D.sizes disk.new) (D.images disk.new)) }
-    ensures cause { HasStoreCause (D.faults disk.old) (D.faults disk.new) result }
-    ensures lasts { D.lasts disk.old disk.new }
-    ensures failed { IsErrOf result StoreFault.Device → D.fails disk.old disk.new }
+    ensures call { IsStoreReading D.seen D.sizes D.images D.moment D.images_since D.faults D.changes_asked D.lasts D.fails disk.old disk.new result }
 {
     let Some(next) = next_body(disk, log, at, body)? else {
         return Ok(None);
@@ -160,14 +145,9 @@ fn next_body<D: Disk>(
     ensures gate { IfOk result (λ next. IfSome next (λ place. OnTold (D.seen disk.new log.old.file) (IsSomeGate log.old place))) }
     ensures end { IfOk result (λ next. MatchOption next (at + 1 ≡ log.old.length) (λ place. (at < place) × (place < log.old.length))) }
     ensures refused { IfErr result (IsRefusal (λ place damage bytes. ⊥) (D.seen disk.old log.old.file)) }
-    ensures unchanged { IsUnchanged (D.seen disk.old) (D.seen disk.new) (D.sizes disk.old) (D.sizes disk.new) }
-    ensures crash { AreSame (D.images disk.old) (D.images disk.new) }
-    ensures any_moment { LeavesOnly D.moment D.images_since disk.old disk.new (D.images disk.old) }
     ensures same { OnOk result (log.new ≡ log.old) }
     ensures ready { OnOk result (IsReady log.old (D.seen disk.new) (D.sizes disk.new) (D.images disk.new)) }
-    ensures cause { HasStoreCause (D.faults disk.old) (D.faults disk.new) result }
-    ensures lasts { D.lasts disk.old disk.new }
-    ensures failed { IsErrOf result StoreFault.Device → D.fails disk.old disk.new }
+    ensures call { IsStoreReading D.seen D.sizes D.images D.moment D.images_since D.faults D.changes_asked D.lasts D.fails disk.old disk.new result }
 {
     match log.replay(disk, at, into) {
         Ok(next) => Ok(next),

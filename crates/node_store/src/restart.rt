@@ -1,14 +1,16 @@
 //! A server that is down is brought back from what its disk gives.
-ghost use Rattle.std.specs.Prelude.{◌≡◌, ◌^◌, ◌<◌, ◌≤◌, ℕ, [], None, Some, false, nat_lt, if◌then◌else◌, take, length, IfOk, IfErr, OnOk, OnErr, IsErrOf};
+ghost use Rattle.std.specs.Prelude.{◌≡◌, ◌^◌, ◌<◌, ◌≤◌, ℕ, [], None, Some, false, nat_lt, if◌then◌else◌, take, length, IfOk, IfErr, OnOk, OnErr};
+ghost use Rattle.mds_base.specs.declared.limits.TheConstants.{LEASE_MOST, MOMENTS};
 ghost use Rattle.records.specs.Spelling.{IsHead};
 ghost use Rattle.gate_log.specs.LogState.{IsReady};
-ghost use Rattle.mds_out.specs.Disk.{Image, LeavesOnly, IsUnchanged, AreSame, StaysTold};
+ghost use Rattle.mds_out.specs.Disk.{Image, LeavesOnly, StaysTold};
 ghost use Rattle.mds_out.specs.Known.{OnTold};
 ghost use Rattle.node_core.specs.Nodes.{StoreV};
 ghost use Rattle.node_core.specs.Serving.{restarted, replayed_all};
 ghost use Rattle.node_store.specs.Parts.{IsNodeOf};
 ghost use Rattle.node_store.specs.Reading.{IsRefusal};
-ghost use Rattle.node_store.specs.Serve.{IsAllOrNone, HasStoreCause};
+ghost use Rattle.node_store.specs.Serve.{IsAllOrNone};
+ghost use Rattle.node_store.specs.Disks.{IsStoreReading, IsStoreChanging};
 ghost use Rattle.node_store.specs.Stands.{StandsForNone};
 ghost use Rattle.node_store.specs.Store.{IsKept, IsDownAt, KeepsStore};
 
@@ -30,7 +32,7 @@ fn read_whole<D: Disk>(
     setup: Setup,
 ) -> Result<(GateLog, Node, MapRows), StoreFault>
     requires head { IsHead 1 setup.servers server setup.threshold }
-    requires lease { setup.lease ≤ 1000000 }
+    requires lease { setup.lease ≤ LEASE_MOST }
     requires file { log.file ≡ 1 }
     requires running { log.stopped ≡ false }
     requires ready { IsReady log (D.seen disk.old) (D.sizes disk.old) (D.images disk.old) }
@@ -38,12 +40,7 @@ fn read_whole<D: Disk>(
     ensures kept { IfOk result (λ x. IsKept (D.seen disk.new) (D.sizes disk.new) (D.images disk.new) server setup x.0 (record { node = x.1; rows = x.2 })) }
     ensures node { IfOk result (λ x. IsNodeOf server setup x.1) }
     ensures refused { IfErr result (IsRefusal (λ _ _. StandsForNone server setup) (D.seen disk.new 1)) }
-    ensures unchanged { IsUnchanged (D.seen disk.old) (D.seen disk.new) (D.sizes disk.old) (D.sizes disk.new) }
-    ensures crash { AreSame (D.images disk.old) (D.images disk.new) }
-    ensures any_moment { LeavesOnly D.moment D.images_since disk.old disk.new (D.images disk.old) }
-    ensures cause { HasStoreCause (D.faults disk.old) (D.faults disk.new) result }
-    ensures lasts { D.lasts disk.old disk.new }
-    ensures failed { IsErrOf result StoreFault.Device → D.fails disk.old disk.new }
+    ensures call { IsStoreReading D.seen D.sizes D.images D.moment D.images_since D.faults D.changes_asked D.lasts D.fails disk.old disk.new result }
 {
     if log.length() <= 1 {
         return Err(StoreFault::Damaged {
@@ -65,16 +62,14 @@ fn reopened<D: Disk>(
     setup: Setup,
 ) -> Result<(GateLog, Node, MapRows), StoreFault>
     requires head { IsHead 1 setup.servers server setup.threshold }
-    requires lease { setup.lease ≤ 1000000 }
+    requires lease { setup.lease ≤ LEASE_MOST }
     ensures kept { IfOk result (λ x. IsKept (D.seen disk.new) (D.sizes disk.new) (D.images disk.new) server setup x.0 (record { node = x.1; rows = x.2 })) }
     ensures node { IfOk result (λ x. IsNodeOf server setup x.1) }
     ensures refused { IfErr result (IsRefusal (λ _ _. StandsForNone server setup) (D.seen disk.new 1)) }
     ensures told { StaysTold (D.seen disk.old 1) (D.seen disk.new 1) }
     ensures crash { (image : Image) → D.images disk.new image → D.images disk.old image }
     ensures any_moment { LeavesOnly D.moment D.images_since disk.old disk.new (D.images disk.old) }
-    ensures cause { HasStoreCause (D.faults disk.old) (D.faults disk.new) result }
-    ensures lasts { D.lasts disk.old disk.new }
-    ensures failed { IsErrOf result StoreFault.Device → D.fails disk.old disk.new }
+    ensures call { IsStoreChanging D.faults D.lasts D.fails disk.old disk.new result }
 {
     if let Err(fault) = disk.restart() {
         return Err(disk_fault(fault));
@@ -102,7 +97,7 @@ impl<D: Disk> NodeStore<D> {
     /// kept: all, or none. After a refusal it is down as before.
     pub fn restart(&mut self, alloc: Global, now: u64) -> Result<u32, StoreFault>
         requires down { self.old.up ≡ None }
-        requires moment { now < 2 ^ 43 }
+        requires moment { now < MOMENTS }
         ensures kept { IfOk result (λ kept. IsAllOrNone kept (length self.old.doubt)) }
 
         // The server is up with the store that its disk owed it, and with the records that were kept.
@@ -119,9 +114,7 @@ impl<D: Disk> NodeStore<D> {
         ensures any_moment { LeavesOnly D.moment D.images_since self.old.disk self.new.disk (D.images self.old.disk) }
         ensures same { (self.new.server ≡ self.old.server) × (self.new.setup ≡ self.old.setup) }
         ensures told { StaysTold (D.seen self.old.disk 1) (D.seen self.new.disk 1) }
-        ensures cause { HasStoreCause (D.faults self.old.disk) (D.faults self.new.disk) result }
-        ensures lasts { D.lasts self.old.disk self.new.disk }
-        ensures failed { IsErrOf result StoreFault.Device → D.fails self.old.disk self.new.disk }
+        ensures call { IsStoreChanging D.faults D.lasts D.fails self.old.disk self.new.disk result }
     {
         let (log, node, rows) = reopened(alloc, &mut self.disk, self.server, self.setup)?;
         let kept = count_kept(log.length(), self.log.length(), &self.doubt);

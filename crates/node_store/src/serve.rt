@@ -1,11 +1,13 @@
 //! One message at a server that is up.
 ghost use Rattle.std.specs.Prelude.{◌≡◌, ◌^◌, ◌<◌, ◌≤◌, [], ℕ, true, false, IfOk, IfErr, OnOk, OnErr, IsErrOf, MatchOption, length};
 ghost use Rattle.std.specs.List.{AllByRecursion, flat_map};
+ghost use Rattle.mds_base.specs.declared.limits.TheConstants.{MOMENTS, SERVERS_MOST};
 ghost use Rattle.mds_base.specs.declared.setup.Setup.{Setup};
 ghost use Rattle.records.specs.declared.record.Record.{Record};
 ghost use Rattle.records.specs.Spelling.{IsRecord, record_spelling};
 ghost use Rattle.gate_log.specs.Calls.{IsDiskAnswer};
-ghost use Rattle.gate_log.specs.LogState.{IsReady, HasLogCause};
+ghost use Rattle.gate_log.specs.Disks.{IsLogChanging};
+ghost use Rattle.gate_log.specs.LogState.{IsReady};
 ghost use Rattle.mds_out.specs.Disk.{LeavesOnly, StaysTold};
 ghost use Rattle.mds_out.specs.Known.{OnTold};
 ghost use Rattle.node_core.specs.Nodes.{StoreV, has_numbers};
@@ -67,9 +69,7 @@ fn append<D: Disk>(disk: &mut D, log: &mut GateLog, piece: &Piece) -> Result<(),
         OnTold (D.seen disk.new 1) (λ _. LeavesDoubt (D.images disk.new) server setup log.new store items))) }
     ensures told { StaysTold (D.seen disk.old 1) (D.seen disk.new 1) }
     ensures answer { IsDiskAnswer result }
-    ensures cause { HasLogCause (D.faults disk.old) (D.faults disk.new) result }
-    ensures lasts { D.lasts disk.old disk.new }
-    ensures failed { IsErrOf result LogFault.Device → D.fails disk.old disk.new }
+    ensures call { IsLogChanging D.faults D.lasts D.fails disk.old disk.new result }
 {
     match log.append(disk, piece) {
         Ok(()) => Ok(()),
@@ -105,9 +105,9 @@ fn prepared(
     rows: &mut MapRows,
 ) -> Result<(Handled, Option<Piece>), AllocError>
     requires made { IsMessage msg.now }
-    requires moment { now < 2 ^ 43 }
+    requires moment { now < MOMENTS }
     requires numbers { has_numbers node.old ≡ true }
-    requires range { node.old.server < 32 }
+    requires range { node.old.server < SERVERS_MOST }
     requires from_two { 2 ≤ node.old.next }
     ensures served { IfOk result (λ x. IsServed (serve (record { node = node.old; rows = rows.old }) msg.now now) node.new rows.new x.0) }
     ensures piece { IfOk result (λ x. MatchOption x.1 (x.0.records ≡ []) (λ body. IsBody body x.0.records)) }
@@ -139,9 +139,9 @@ pub(crate) fn serve_on<D: Disk>(
     rows: &mut MapRows,
 ) -> Result<Handled, Refusal>
     requires made { IsMessage msg.now }
-    requires moment { now < 2 ^ 43 }
+    requires moment { now < MOMENTS }
     requires numbers { has_numbers node.old ≡ true }
-    requires range { node.old.server < 32 }
+    requires range { node.old.server < SERVERS_MOST }
     requires from_two { 2 ≤ node.old.next }
     requires file { log.old.file ≡ 1 }
     requires running { log.old.stopped ≡ false }

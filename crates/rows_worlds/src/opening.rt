@@ -1,8 +1,8 @@
 //! Rows of `node_store`: disks on which server 0 of 1 is brought up.
-use row_words::{Answer, RowFault, Words, bytes_of, hex_text};
 use mds_base::{Damage, Setup, StoreFault};
 use mds_out::{Disk, Fuse, Memory, Outcome};
 use node_store::{NodeStore, Refused};
+use row_words::{Answer, RowFault, Words, bytes_of, hex_text};
 use std::alloc::Global;
 
 const SETUP: Setup = Setup {

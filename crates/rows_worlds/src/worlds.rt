@@ -2,11 +2,11 @@
 ghost use Rattle.std.specs.Prelude.{◌≡◌, ◌<◌, true};
 ghost use Rattle.world.specs.Events.{enabled};
 
-use row_words::{Answer, RowFault, Words};
 use crate::history::{Effect, History, Issued};
 use bitmap::Bitmap;
 use mds_base::{Call, Name, NameFault, PlaceList, Reply, Setup, Stamp};
 use records::{Msg, Record};
+use row_words::{Answer, RowFault, Words};
 use std::alloc::{AllocError, Global};
 use world::{Event, ServeEnd, StopCause, World};
 
@@ -69,10 +69,7 @@ fn is_right(
     setup: Setup,
     counts: &mut Counts,
 ) -> Result<bool, RowFault> {
-    if setup.servers < 1 || 32 < setup.servers || setup.clients < 1 || 64 < setup.clients {
-        return Err(RowFault::Refused);
-    }
-    if 1_000_000 < setup.lease {
+    if !setup.is_fit() {
         return Err(RowFault::Refused);
     }
     let mut dice = Dice { state: seed };

@@ -1,5 +1,5 @@
 -- From what calls of the parts of a simulation gave to what its own calls say.
-use Rattle.std.proofs.Common.{◌≡◌, ◌∙◌, sym, ap, subst, refl, ℕ, zero, suc, ◌+◌, ◌-◌, ◌<◌, ◌≤◌, ◌^◌, Bool, true, false, not, is_some, List, [], ◌∷◌, ◌++◌, length, get_or, Option, Some, None, Result, Ok, Err, IfOk, OnOk, OnErr, arith}
+use Rattle.std.proofs.Common.{◌≡◌, ◌∙◌, sym, ap, subst, refl, ℕ, zero, suc, ◌+◌, ◌-◌, ◌<◌, ◌≤◌, Bool, true, false, not, is_some, List, [], ◌∷◌, ◌++◌, length, get_or, Option, Some, None, Result, Ok, Err, IfOk, OnOk, OnErr, arith}
 use Rattle.std.specs.Prelude.{slice_set}
 use Rattle.std.specs.List.{slice_get}
 use Rattle.std.specs.FinSet as set
@@ -8,8 +8,8 @@ use Rattle.std.specs.declared.alloc.AllocError.{AllocError}
 use Rattle.std.proofs.lemmas.List.{length-append}
 use Rattle.std.proofs.lemmas.Option.{get_or_from_slice_get, slice_get_read}
 use Rattle.std.proofs.lemmas.Bool.{eq-eqb, true≢false}
+use Rattle.mds_base.specs.declared.limits.TheConstants.{ATTEMPTS, CALLS, DIRECTORIES, EVENTS}
 use Rattle.mds_base.specs.declared.call.Call.{Call}
-use Rattle.mds_base.specs.declared.call.Call.TheVariants.{Create, Mkdir, Remove, Lookup, Setattr, Scan, Grab, Load, Link, Seal, Unseal, Kill, Unlink}
 use Rattle.mds_base.specs.declared.setup.Setup.{Setup}
 use Rattle.mds_out.specs.Disk.{Image, Contents}
 use Rattle.records.specs.declared.msg.Msg.{Msg}
@@ -18,6 +18,7 @@ use Rattle.client_core.specs.declared.taken.Taken.{Taken}
 use Rattle.client_core.specs.Clients.{ClientV, HasPending, HasRoom, SendsAgain, request_of, issued, issue_msg, resent, resend_msg}
 use Rattle.mds_base.specs.Calls.{dir_of}
 use Rattle.client_core.specs.Taking as taking
+use Rattle.node_core.proofs.Calls.{well_made_fits}
 use Rattle.node_store.specs.Serve.{IsWellMade}
 use Rattle.node_store.specs.Store.{Store}
 use Rattle.world.specs.declared.event.Event.TheVariants.{Issue, Resend, Take}
@@ -115,7 +116,7 @@ either P (Ok t) x a b ok err pa pb = subst P (sym ok) pa
 either P (Err e) x a b ok err pa pb = subst P (sym err) pb
 
 module _ {X : Type 0} (setup : Setup) (now count : ℕ) (stores : List (Store X)) (clients : List ClientV) (sent : List Msg) (r : AreRanges setup now count stores clients sent) where
-  pub few_calls : (k : ℕ) (client : ClientV) → slice_get clients k ≡ Some client → client.seq < 2 ^ 63
+  pub few_calls : (k : ℕ) (client : ClientV) → slice_get clients k ≡ Some client → client.seq < CALLS
   few_calls k client is = let below = (r.seats.at k client is).seq in let few = r.events in omega (arith, below, few)
 
   open_room : (k : ℕ) (client : ClientV) (p : Option Pending) → slice_get clients k ≡ Some client → client.pending ≡ p → HasRoom p
@@ -130,7 +131,7 @@ module _ {X : Type 0} (setup : Setup) (now count : ℕ) (stores : List (Store X)
   pub pending_made : (k : ℕ) (client : ClientV) (pending : Pending) → slice_get clients k ≡ Some client → client.pending ≡ Some pending → IsOpenCall count client.seq pending
   pending_made k client pending is busy = subst (IsOpen count client.seq) busy (r.seats.at k client is).pending
 
-  module _ (room : count < 2 ^ 20) (k : ℕ) (client : ClientV) (is : slice_get clients k ≡ Some client) where
+  module _ (room : count < EVENTS) (k : ℕ) (client : ClientV) (is : slice_get clients k ≡ Some client) where
     -- the client stayed as it was
     pub ranged_refused : (client' : ClientV) → client' ≡ client → AreRanges setup now (count + 1) stores (slice_set clients k client') sent
     ranged_refused client' same = ranged_client setup now count stores clients sent r room k client' (subst (IsSeat setup (count + 1) k) (sym same) (seat_more setup count k client (r.seats.at k client is)))
@@ -179,7 +180,7 @@ request_stands sim sent client seq attempt call number place stands at numbered 
       asks = ap (is_request_of number) here ∙ eq-eqb client.number number numbered;
       server = _;
       is = ap server_for here;
-      there = good.0;
+      there = good.there;
     }
 
 asked : {X : Type 0} (sim : SimulationV X) (setup : Setup) (sent sent' : List Msg) (waiting waiting' : set.FinSet waiting_cmp) (client : ClientV) (seq attempt : ℕ) (call : Call) (msg : Msg) (number : ℕ) (result : Result ℕ AllocError) → sim.setup ≡ setup → sim.sent ≡ sent' → msg ≡ request_of client seq attempt call → IsSent setup.servers (request_of client seq attempt call)
@@ -189,7 +190,7 @@ asked sim setup sent sent' waiting waiting' client seq attempt call msg number (
     (subst (λ (s : Setup). IsSent s.servers (request_of client seq attempt call)) (sym same_setup) good)
 asked sim setup sent sent' waiting waiting' client seq attempt call msg number (Err e) same_setup same_sent request good numbered did = tt
 
-module _ {X : Type 0} (setup : Setup) (now count : ℕ) (stores : List (Store X)) (clients : List ClientV) (sent : List Msg) (r : AreRanges setup now count stores clients sent) (room : count < 2 ^ 20) (number : ℕ) (client : ClientV) (at : IsAt clients number client) where
+module _ {X : Type 0} (setup : Setup) (now count : ℕ) (stores : List (Store X)) (clients : List ClientV) (sent : List Msg) (r : AreRanges setup now count stores clients sent) (room : count < EVENTS) (number : ℕ) (client : ClientV) (at : IsAt clients number client) where
   numbered : client.number ≡ number
   numbered = let e = (r.seats.at (number - 1) client at.place).number in let f = at.from_one in omega (arith, e, f)
 
@@ -231,14 +232,14 @@ send_gives P was number client client' msg msg' sent' waiting' (Ok place) after 
     (subst (λ c. P (with_sent was (number - 1) c (was.sent ++ msg ∷ []) (awaiting was.waiting (server_for (Some msg)) (length was.sent)))) (sym after)
     (subst (λ k. P (with_sent was k client (was.sent ++ msg ∷ []) (awaiting was.waiting (server_for (Some msg)) (length was.sent)))) (index_is number) holds)))
 
-module _ {X : Type 0} (seen : X → Contents) (images : X → Image → Type 0) (was old : SimulationV X) (same : was ≡ old) (number : ℕ) (client : ClientV) (at : IsAt was.clients number client) (few : client.seq < 2 ^ 63) where
+module _ {X : Type 0} (seen : X → Contents) (images : X → Image → Type 0) (was old : SimulationV X) (same : was ≡ old) (number : ℕ) (client : ClientV) (at : IsAt was.clients number client) (few : client.seq < CALLS) where
   pub issue_done : (call : Call) (client' : ClientV) (msg : Msg) (sent' : List Msg) (waiting' : set.FinSet waiting_cmp) (result : Result ℕ AllocError) → client.pending ≡ None → is_call call ≡ true → client' ≡ issued client call → msg ≡ issue_msg client call → IsSend result was.sent sent' was.waiting waiting' msg
       → OnOk result (Happens seen images old (with_sent was (number - 1) client' sent' waiting') (Issue number call))
   issue_done call client' msg sent' waiting' result idle served after request did =
       send_gives (λ v. Happens seen images old v (Issue number call)) was number (issued client call) client' (issue_msg client call) msg sent' waiting' result after request did
       (happens_from seen images was old _ (Issue number call) same (issue_happens seen images was number client call at.is idle few served))
 
-  pub resend_done : (pending : Pending) (client' : ClientV) (msg : Msg) (sent' : List Msg) (waiting' : set.FinSet waiting_cmp) (result : Result ℕ AllocError) → client.pending ≡ Some pending → pending.attempt < 2 ^ 31 → client' ≡ resent client pending → msg ≡ resend_msg client pending → IsSend result was.sent sent' was.waiting waiting' msg
+  pub resend_done : (pending : Pending) (client' : ClientV) (msg : Msg) (sent' : List Msg) (waiting' : set.FinSet waiting_cmp) (result : Result ℕ AllocError) → client.pending ≡ Some pending → pending.attempt < ATTEMPTS → client' ≡ resent client pending → msg ≡ resend_msg client pending → IsSend result was.sent sent' was.waiting waiting' msg
       → OnOk result (Happens seen images old (with_sent was (number - 1) client' sent' waiting') (Resend number))
   resend_done pending client' msg sent' waiting' result busy short after request did =
       send_gives (λ v. Happens seen images old v (Resend number)) was number (resent client pending) client' (resend_msg client pending) msg sent' waiting' result after request did
@@ -285,7 +286,7 @@ module _ {X : Type 0} (was old : SimulationV X) (same : was ≡ old) (number pla
       subst (λ (v : SimulationV X). taken_of (client_at v.clients number) (slice_get v.sent place) ≡ Some taken) same
       (ap (λ o. taken_of o (slice_get was.sent place)) at.is ∙ ap (taken_of (Some client)) there.is ∙ ap Some (sym said))
 
-  pub take_done : (seen : X → Contents) (images : X → Image → Type 0) (client' : ClientV) (places : set.FinSet nat_cmp) (taken : Taken) → client.seq < 2 ^ 63 → HasRoom client.pending → taken ≡ (taking.take client msg).taken → client' ≡ (taking.take client msg).client → places ≡ noting was.taken taken place
+  pub take_done : (seen : X → Contents) (images : X → Image → Type 0) (client' : ClientV) (places : set.FinSet nat_cmp) (taken : Taken) → client.seq < CALLS → HasRoom client.pending → taken ≡ (taking.take client msg).taken → client' ≡ (taking.take client msg).client → places ≡ noting was.taken taken place
       → Happens seen images old (with_taken was (number - 1) client' places) (Take number place)
   take_done seen images client' places taken few room said after noted =
       subst (λ p. Happens seen images old (with_taken was (number - 1) client' p) (Take number place)) (sym (noted ∙ ap (λ t. noting was.taken t place) said))
@@ -295,23 +296,11 @@ module _ {X : Type 0} (was old : SimulationV X) (same : was ≡ old) (number pla
 
 -- A call is sent again
 
-pub made_fits : (call : Call) → IsWellMade call → dir_of call < 2 ^ 48
-made_fits (Create dir name) made = made.0.1
-made_fits (Mkdir dir name) made = made.0.1
-made_fits (Remove dir name) made = made.0.1
-made_fits (Setattr dir name mode size stamp) made = made.0.1
-made_fits (Lookup dir name) made = made.1
-made_fits (Scan dir) made = made.1
-made_fits (Grab dir name count) made = made.1
-made_fits (Load dir rows) made = made.1
-made_fits (Link dir name id) made = made.1
-made_fits (Seal dir part epoch) made = made.1
-made_fits (Unseal dir part epoch) made = made.1
-made_fits (Kill dir epoch) made = made.1
-made_fits (Unlink dir name id) made = made.1
+pub made_fits : (call : Call) → IsWellMade call → dir_of call < DIRECTORIES
+made_fits call is = well_made_fits call is.made
 
 module _ {X : Type 0} (setup : Setup) (now count : ℕ) (stores : List (Store X)) (clients : List ClientV) (sent : List Msg) (r : AreRanges setup now count stores clients sent) where
-  pub few_attempts : (k : ℕ) (client : ClientV) (pending : Pending) → slice_get clients k ≡ Some client → client.pending ≡ Some pending → pending.attempt < 2 ^ 31
+  pub few_attempts : (k : ℕ) (client : ClientV) (pending : Pending) → slice_get clients k ≡ Some client → client.pending ≡ Some pending → pending.attempt < ATTEMPTS
   few_attempts k client pending is busy = let below = (pending_made setup now count stores clients sent r k client pending is busy).attempts in let few = r.events in omega (arith, below, few)
 
   pub has_pending : (k : ℕ) (client : ClientV) (pending : Pending) → slice_get clients k ≡ Some client → client.pending ≡ Some pending → HasPending client.pending

@@ -1,20 +1,19 @@
 -- From what the calls of a server on a disk gave to what those of the simulation say.
-use Rattle.std.proofs.Common.{◌≡◌, ◌≢◌, ◌∙◌, sym, ap, subst, refl, ℕ, zero, suc, ◌+◌, ◌-◌, ◌<◌, ◌^◌, take, drop, true, is_some, List, [], ◌∷◌, ◌++◌, length, get_or, Option, Some, None, MatchOption, Result, Ok, Err, OnErr, arith}
+use Rattle.std.proofs.Common.{◌≡◌, ◌≢◌, ◌∙◌, sym, ap, subst, refl, ℕ, zero, suc, ◌+◌, ◌-◌, ◌<◌, take, drop, true, is_some, List, [], ◌∷◌, ◌++◌, length, get_or, Option, Some, None, MatchOption, Result, Ok, Err, OnErr, arith}
 use Rattle.std.specs.Prelude.{slice_set}
 use Rattle.std.specs.List.{slice_get}
 use Rattle.std.proofs.lemmas.List.{append-nil}
 use Rattle.std.proofs.lemmas.Option.{get_or_from_slice_get, slice_get_read}
+use Rattle.mds_base.specs.declared.limits.TheConstants.{EVENTS}
 use Rattle.mds_base.specs.declared.ask.Ask.{Ask}
 use Rattle.mds_base.specs.declared.setup.Setup.{Setup}
 use Rattle.mds_out.specs.Disk.{Image, Contents, StaysTold}
 use Rattle.mds_out.specs.Fault.{Rose}
 use Rattle.records.specs.declared.msg.Msg.{Msg}
-use Rattle.records.specs.declared.msg.Msg.TheVariants.{Request, Redirect, Answer, Busy, Held, Page, Closed, Transfer, Installed}
 use Rattle.client_core.specs.Clients.{ClientV}
 use Rattle.node_core.specs.Nodes.{StoreV}
-use Rattle.node_core.specs.Rules.{Outcome, Silent, Looks, Repeats, Carries, outcome}
-use Rattle.node_core.specs.Serving.{serve, served_as}
-use Rattle.node_store.specs.Serve.{IsMessage}
+use Rattle.node_core.specs.Rules.{Outcome, Silent, Looks, Repeats, Carries, outcome, request_in}
+use Rattle.node_core.specs.Serving.{serve, serve_request, served_as}
 use Rattle.node_store.specs.Store.{Store, IsDownAt}
 use Rattle.world.specs.declared.event.Event.TheVariants.{Miss}
 use Rattle.mds_base.specs.Lists.{Each}
@@ -62,7 +61,7 @@ module _ {X : Type 0} (setup : Setup) (now count : ℕ) (stores : List (Store X)
   ranged_unsent sent' e = subst (AreRanges setup now count (slice_set stores k new) clients) (sym e) ranged_store
 
   -- one event more, and perhaps some messages
-  pub ranged_more : (sent' : List Msg) → count < 2 ^ 20 → Each sent' (λ j msg. IsSent setup.servers msg) → AreRanges setup now (count + 1) (slice_set stores k new) clients sent'
+  pub ranged_more : (sent' : List Msg) → count < EVENTS → Each sent' (λ j msg. IsSent setup.servers msg) → AreRanges setup now (count + 1) (slice_set stores k new) clients sent'
   ranged_more sent' room good = record {
     setup' = r.setup';
     moment = r.moment;
@@ -81,52 +80,26 @@ module _ (servers : ℕ) (sent : List Msg) (good : Each sent (λ j msg. IsSent s
 
   as_sent : (store : StoreV) (ask : Ask) (o : Outcome) → Each (sent ++ (served_as store ask o).outputs) (λ j msg. IsSent servers msg)
   as_sent store ask Silent = sent_none
-  as_sent store ask (Looks reply) = each_push _ good tt
-  as_sent store ask (Repeats said) = each_push _ good tt
-  as_sent store ask (Carries said) = each_push _ good tt
+  as_sent store ask (Looks reply) = each_push _ good (record { there = tt; made = tt })
+  as_sent store ask (Repeats said) = each_push _ good (record { there = tt; made = tt })
+  as_sent store ask (Carries said) = each_push _ good (record { there = tt; made = tt })
+
+  asked_sent : (store : StoreV) (request : Option Ask) (now : ℕ) → Each (sent ++ (serve_request store request now).outputs) (λ j msg. IsSent servers msg)
+  asked_sent store None now = sent_none
+  asked_sent store (Some ask) now = as_sent store ask (outcome store ask now)
 
   serve_sent : (store : StoreV) (msg : Msg) (now : ℕ) → Each (sent ++ (serve store msg now).outputs) (λ j msg. IsSent servers msg)
-  serve_sent store (Request to ask cursor) now = as_sent store ask (outcome store ask now)
-  serve_sent store (Redirect to seq attempt dir bits) now = sent_none
-  serve_sent store (Answer to seq attempt reply) now = sent_none
-  serve_sent store (Busy to seq attempt part depth) now = sent_none
-  serve_sent store (Held to seq attempt until) now = sent_none
-  serve_sent store (Page to seq attempt rows next) now = sent_none
-  serve_sent store (Closed to seq attempt part epoch) now = sent_none
-  serve_sent store (Transfer to dir part depth index pieces bits sessions top rows) now = sent_none
-  serve_sent store (Installed to dir part child) now = sent_none
+  serve_sent store msg now = asked_sent store (request_in msg) now
 
   pub sent_served : (store : StoreV) (msg : Msg) (now : ℕ) (outputs sent' : List Msg) → outputs ≡ (serve store msg now).outputs → sent' ≡ sent ++ outputs → Each sent' (λ j msg. IsSent servers msg)
   sent_served store msg now outputs sent' gave stands = subst (λ l. Each l (λ j msg. IsSent servers msg)) (sym (stands ∙ ap (λ o. sent ++ o) gave)) (serve_sent store msg now)
 
-pub message_made : (servers : ℕ) (msg : Msg) → IsSent servers msg → IsMessage msg
-message_made servers (Request to ask cursor) good = good.1
-message_made servers (Redirect to seq attempt dir bits) good = tt
-message_made servers (Answer to seq attempt reply) good = tt
-message_made servers (Busy to seq attempt part depth) good = tt
-message_made servers (Held to seq attempt until) good = tt
-message_made servers (Page to seq attempt rows next) good = tt
-message_made servers (Closed to seq attempt part epoch) good = tt
-message_made servers (Transfer to dir part depth index pieces bits sessions top rows) good = tt
-message_made servers (Installed to dir part child) good = tt
-
 -- the server of a message, where it is for one, is there
-for_there : (servers : ℕ) (msg : Msg) → IsSent servers msg → MatchOption (server_for (Some msg)) (Unit {0}) (λ server. server < servers)
-for_there servers (Request to ask cursor) good = good.0
-for_there servers (Redirect to seq attempt dir bits) good = tt
-for_there servers (Answer to seq attempt reply) good = tt
-for_there servers (Busy to seq attempt part depth) good = tt
-for_there servers (Held to seq attempt until) good = tt
-for_there servers (Page to seq attempt rows next) good = tt
-for_there servers (Closed to seq attempt part epoch) good = tt
-for_there servers (Transfer to dir part depth index pieces bits sessions top rows) good = good
-for_there servers (Installed to dir part child) good = good
-
 pub server_there : {X : Type 0} (setup : Setup) (now count : ℕ) (stores : List (Store X)) (clients : List ClientV) (sent : List Msg) → AreRanges setup now count stores clients sent → (msgs : List Msg) (at : ℕ) (msg : Msg) (result : Option ℕ) → msgs ≡ sent → at < length msgs → msg ≡ get_or msgs at msg → result ≡ server_for (Some msg)
     → MatchOption result (Unit {0}) (λ server. server < setup.servers)
 server_there setup now count stores clients sent r msgs at msg result same below read is =
     let there : slice_get sent at ≡ Some msg = ap (λ l. slice_get l at) (sym same) ∙ slice_get_read msgs (length msgs) at msg refl below read in
-    subst (λ o. MatchOption o (Unit {0}) (λ server. server < setup.servers)) (sym is) (for_there setup.servers msg (r.sent'.at at msg there))
+    subst (λ o. MatchOption o (Unit {0}) (λ server. server < setup.servers)) (sym is) (r.sent'.at at msg there).there
 
 -- What stays
 

@@ -11,7 +11,8 @@ use Rattle.node_store.specs.Store.{Store}
 use Rattle.mds_base.proofs.Grow.{within}
 use Rattle.world.proofs.Starts.{get_below, ranged}
 use Rattle.simulation.specs.Openings.{Paired, IsUpOn}
-use Rattle.simulation.specs.Ranges.{IsSetup, IsSeat, AreRanges}
+use Rattle.mds_base.specs.Setups.{IsSetup}
+use Rattle.simulation.specs.Ranges.{IsSeat, AreRanges}
 use Rattle.simulation.proofs.Pairs.{paired_length, paired_at}
 
 new_seat : (setup : Setup) (k : ℕ) → IsSeat setup 0 k (new_client (1 + k) setup)

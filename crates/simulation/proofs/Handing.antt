@@ -25,7 +25,7 @@ use Rattle.simulation.specs.Calls.{CanServe, Serves, RepliesTo, faults_of, fault
 use Rattle.simulation.specs.Entries.{changes_of, lookup_of, with_one, ended_by}
 use Rattle.simulation.specs.Ranges.{AreRanges}
 use Rattle.simulation.specs.Shows.{SimulationV, Happens, StaysNear, waiting_cmp, server_for, is_up, has_numbers_at}
-use Rattle.simulation.proofs.Changing.{is_for, message_made, some_same, told_stays, up_store, others_stay, rose_at, faults_same}
+use Rattle.simulation.proofs.Changing.{is_for, some_same, told_stays, up_store, others_stay, rose_at, faults_same}
 use Rattle.simulation.proofs.Serving.{IsToServe, IsServedStore, IsStoppedStore, served_by, stopped_by, serve_happens, stop_happens, replies_to}
 use Rattle.simulation.proofs.Showing.{happens_from, stays_near}
 use Rattle.simulation.proofs.Standing.{up_with, numbers_with}
@@ -74,8 +74,8 @@ serving {X = X} was old place server store same can is read =
       };
     }
 
-pub one_message : {X : Type 0} (setup : Setup) (now count : ℕ) (stores : List (Store X)) (clients : List ClientV) (sent : List Msg) (place : ℕ) (msg : Msg) (msgs : List Msg) → AreRanges setup now count stores clients sent → slice_get sent place ≡ Some msg → msgs ≡ msg ∷ [] → IsOneMessage msgs msg
-one_message setup now count stores clients sent place msg msgs r there one = record { one = one; made = message_made setup.servers msg (r.sent'.at place msg there) }
+pub one_message : {X : Type 0} (setup : Setup) (now count : ℕ) (stores : List (Store X)) (clients : List ClientV) (sent : List Msg) (place : ℕ) (msg : Msg) → AreRanges setup now count stores clients sent → slice_get sent place ≡ Some msg → IsOneMessage sent (place ∷ []) msg
+one_message setup now count stores clients sent place msg r there = record { place = place; one = refl; there = there; made = (r.sent'.at place msg there).made }
 
 -- The ends of a Serve
 

@@ -23,7 +23,7 @@ use Rattle.mds_base.proofs.Grow.{within}
 use Rattle.world.proofs.Starts.{get_below}
 use Rattle.simulation.specs.Fuses.{seen_by, images_by}
 use Rattle.simulation.specs.Openings.{Paired, IsDiskOf, IsOpenFault, IsNotOpened, IsNoDamage}
-use Rattle.simulation.specs.Ranges.{IsSetup}
+use Rattle.mds_base.specs.Setups.{IsSetup}
 use Rattle.simulation.specs.Shows.{IsServer, IsServerAt, AreServers}
 use Rattle.simulation.specs.Starts.{AreDisks, AreReached}
 use Rattle.simulation.proofs.Found.{ReadsAs, left_stores, stands_any}

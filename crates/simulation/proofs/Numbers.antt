@@ -1,8 +1,9 @@
 -- A server that is up, and the directory numbers that it has left.
-use Rattle.std.proofs.Common.{◌≡◌, ◌∙◌, sym, ap, subst, refl, ℕ, ◌+◌, ◌*◌, ◌-◌, ◌^◌, true, is_some, Option, Some, None, arith}
+use Rattle.std.proofs.Common.{◌≡◌, ◌∙◌, sym, ap, subst, refl, ℕ, ◌+◌, ◌*◌, ◌-◌, true, is_some, Option, Some, None, arith}
 use Rattle.std.specs.Prelude.{nat_le}
 use Rattle.std.specs.List.{slice_get}
 use Rattle.std.proofs.lemmas.Bool.Decides.{nat_tests}
+use Rattle.mds_base.specs.declared.limits.TheConstants.{SERVER_DIRECTORIES, SERVE_DIRECTORIES}
 use Rattle.node_core.specs.Nodes.{NodeV, StoreV, has_numbers}
 use Rattle.node_store.specs.Store.{Store}
 use Rattle.simulation.specs.Shows.{SimulationV, is_up, store_is_up, up_has_numbers, store_has_numbers, has_numbers_at}
@@ -15,12 +16,12 @@ pub up_at : {X : Type 0} (was old : SimulationV X) (s : ℕ) (store : Store X) �
 up_at {X = X} was old s store same is up =
     some_up store.up (ap store_is_up (sym is) ∙ subst (λ (v : SimulationV X). is_up v s ≡ true) (sym same) up)
 
-left_is : (next server : ℕ) → nat_le next ((server + 1) * 2 ^ 40 - 2 ^ 18) ≡ nat_le (next + 2 ^ 18) ((server + 1) * 2 ^ 40)
+left_is : (next server : ℕ) → nat_le next ((server + 1) * SERVER_DIRECTORIES - SERVE_DIRECTORIES) ≡ nat_le (next + SERVE_DIRECTORIES) ((server + 1) * SERVER_DIRECTORIES)
 left_is next server = grind (arith, nat_tests)
 
-own_left : (next server : ℕ) (node : NodeV) → next ≡ node.next → node.server ≡ server → nat_le next ((server + 1) * 2 ^ 40 - 2 ^ 18) ≡ has_numbers node
-own_left next server node e o = left_is next server ∙ ap (λ n. nat_le (n + 2 ^ 18) ((server + 1) * 2 ^ 40)) e ∙ ap (λ n. nat_le (node.next + 2 ^ 18) ((n + 1) * 2 ^ 40)) (sym o)
+own_left : (next server : ℕ) (node : NodeV) → next ≡ node.next → node.server ≡ server → nat_le next ((server + 1) * SERVER_DIRECTORIES - SERVE_DIRECTORIES) ≡ has_numbers node
+own_left next server node e o = left_is next server ∙ ap (λ n. nat_le (n + SERVE_DIRECTORIES) ((server + 1) * SERVER_DIRECTORIES)) e ∙ ap (λ n. nat_le (node.next + SERVE_DIRECTORIES) ((n + 1) * SERVER_DIRECTORIES)) (sym o)
 
-pub numbers_at : {X : Type 0} (was old : SimulationV X) (s next : ℕ) (store : Store X) (x : StoreV) → was ≡ old → slice_get was.stores s ≡ Some store → store.up ≡ Some x → next ≡ x.node.next → x.node.server ≡ s → nat_le next ((s + 1) * 2 ^ 40 - 2 ^ 18) ≡ has_numbers_at old s
+pub numbers_at : {X : Type 0} (was old : SimulationV X) (s next : ℕ) (store : Store X) (x : StoreV) → was ≡ old → slice_get was.stores s ≡ Some store → store.up ≡ Some x → next ≡ x.node.next → x.node.server ≡ s → nat_le next ((s + 1) * SERVER_DIRECTORIES - SERVE_DIRECTORIES) ≡ has_numbers_at old s
 numbers_at was old s next store x same is up e o =
     own_left next s x.node e o ∙ ap up_has_numbers (sym up) ∙ ap store_has_numbers (sym is) ∙ ap (λ v. has_numbers_at v s) same

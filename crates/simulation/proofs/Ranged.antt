@@ -3,6 +3,7 @@ use Rattle.std.proofs.Common.{◌≡◌, ◌∙◌, sym, ap, subst, refl, ℕ, �
 use Rattle.std.specs.Prelude.{slice_set}
 use Rattle.std.specs.List.{slice_get}
 use Rattle.std.proofs.lemmas.Nat.{mod_below}
+use Rattle.mds_base.specs.declared.limits.TheConstants.{EVENTS, MOMENTS}
 use Rattle.mds_base.specs.declared.call.Call.{Call}
 use Rattle.mds_base.specs.declared.reply.Reply.{Reply}
 use Rattle.mds_base.specs.declared.setup.Setup.{Setup}
@@ -16,7 +17,8 @@ use Rattle.client_core.specs.Taking.{take, take_at, take_pending, answered_if, r
 use Rattle.node_store.specs.Serve.{IsWellMade}
 use Rattle.node_store.specs.Store.{Store}
 use Rattle.mds_base.proofs.Grow.{each_push, each_map, each_set, length_set, within}
-use Rattle.simulation.specs.Ranges.{IsSetup, IsOpenCall, IsOpen, IsSeat, IsSent, AreRanges}
+use Rattle.mds_base.specs.Setups.{IsSetup}
+use Rattle.simulation.specs.Ranges.{IsOpenCall, IsOpen, IsSeat, IsSent, AreRanges}
 
 open_more : (count seq : ℕ) (pending : Option Pending) → IsOpen count seq pending → IsOpen (count + 1) seq pending
 open_more count seq None o = tt
@@ -87,19 +89,19 @@ module _ (setup : Setup) (count k : ℕ) (client : ClientV) (s : IsSeat setup co
 -- what a client sends is well made, and for a server that is there
 pub request_sent : (setup : Setup) (count k : ℕ) (client : ClientV) (seq attempt : ℕ) (call : Call) → IsSetup setup → k < setup.clients → IsSeat setup count k client → 1 ≤ seq → seq < 2 ^ 64 → IsWellMade call
     → IsSent setup.servers (request_of client seq attempt call)
-request_sent setup count k client seq attempt call ranges there s from below made = (
-  (let e = ap (λ (x : Setup). x.servers) s.setup' in let some = ranges.some_server in
-      subst (λ n. (dir_of call + target_of client call) % n < setup.servers) (sym e) (mod_below (dir_of call + target_of client call) setup.servers (omega (arith, some)))),
-  record {
+request_sent setup count k client seq attempt call ranges there s from below made = record {
+  there = (let e = ap (λ (x : Setup). x.servers) s.setup' in let some = ranges.some_server in
+      subst (λ n. (dir_of call + target_of client call) % n < setup.servers) (sym e) (mod_below (dir_of call + target_of client call) setup.servers (omega (arith, some))));
+  made = record {
     some_client = (let e = s.number in omega (arith, e));
     few_clients = (let e = s.number in let few = ranges.few_clients in omega (arith, e, few, there));
     from_one = from;
     fits = below;
     made = made;
-  },
-)
+  };
+}
 
-module _ {X : Type 0} (setup : Setup) (now count : ℕ) (stores : List (Store X)) (clients : List ClientV) (sent : List Msg) (r : AreRanges setup now count stores clients sent) (room : count < 2 ^ 20) where
+module _ {X : Type 0} (setup : Setup) (now count : ℕ) (stores : List (Store X)) (clients : List ClientV) (sent : List Msg) (r : AreRanges setup now count stores clients sent) (room : count < EVENTS) where
   -- one event more
   pub ranged_count : AreRanges setup now (count + 1) stores clients sent
   ranged_count = record {
@@ -114,7 +116,7 @@ module _ {X : Type 0} (setup : Setup) (now count : ℕ) (stores : List (Store X)
   }
 
   -- one event more, by which the moment rose
-  pub ranged_moment : (by : ℕ) → now + by < 2 ^ 43 → AreRanges setup (now + by) (count + 1) stores clients sent
+  pub ranged_moment : (by : ℕ) → now + by < MOMENTS → AreRanges setup (now + by) (count + 1) stores clients sent
   ranged_moment by below = record {
     setup' = r.setup';
     moment = below;

@@ -1,9 +1,10 @@
 -- A client sends its call, for the first time or again.
-use Rattle.std.proofs.Common.{◌≡◌, ◌∙◌, sym, ap, subst, refl, ℕ, ◌+◌, ◌<◌, ◌^◌, not, true, false, [], ◌∷◌, ◌++◌, length, Option, Some, None}
+use Rattle.std.proofs.Common.{◌≡◌, ◌∙◌, sym, ap, subst, refl, ℕ, ◌+◌, ◌<◌, not, true, false, [], ◌∷◌, ◌++◌, length, Option, Some, None}
 use Rattle.std.specs.Prelude.{slice_set}
 use Rattle.std.specs.Prelude.{map as list_map}
 use Rattle.std.specs.FinSet as set
 use Rattle.std.proofs.lemmas.Bool.{and_from, lt-ltb}
+use Rattle.mds_base.specs.declared.limits.TheConstants.{ATTEMPTS, CALLS}
 use Rattle.mds_base.specs.declared.call.Call.{Call}
 use Rattle.mds_out.specs.Disk.{Image, Contents}
 use Rattle.records.specs.declared.msg.Msg.{Msg}
@@ -39,16 +40,16 @@ sent_by old k client msg =
       taken = old.taken;
     }
 
-may_issue : (seat : ClientState) (call : Call) → seat.quit ≡ false → seat.client.pending ≡ None → seat.client.seq < 2 ^ 63 → is_call call ≡ true → can_issue (Some seat) call ≡ true
+may_issue : (seat : ClientState) (call : Call) → seat.quit ≡ false → seat.client.pending ≡ None → seat.client.seq < CALLS → is_call call ≡ true → can_issue (Some seat) call ≡ true
 may_issue seat call going idle few served =
-    and_from _ _ (and_from _ _ (ap not going) (ap (λ p. not (is_open p)) idle)) (and_from _ _ (lt-ltb seat.client.seq (2 ^ 63) few) served)
+    and_from _ _ (and_from _ _ (ap not going) (ap (λ p. not (is_open p)) idle)) (and_from _ _ (lt-ltb seat.client.seq CALLS few) served)
 
-room_in : (p : Option Pending) (pending : Pending) → p ≡ Some pending → pending.attempt < 2 ^ 31 → has_room p ≡ true
-room_in p pending is few = ap has_room is ∙ lt-ltb pending.attempt (2 ^ 31) few
+room_in : (p : Option Pending) (pending : Pending) → p ≡ Some pending → pending.attempt < ATTEMPTS → has_room p ≡ true
+room_in p pending is few = ap has_room is ∙ lt-ltb pending.attempt ATTEMPTS few
 
-may_resend : (seat : ClientState) (pending : Pending) → seat.quit ≡ false → seat.client.pending ≡ Some pending → seat.client.seq < 2 ^ 63 → pending.attempt < 2 ^ 31 → can_resend (Some seat) ≡ true
+may_resend : (seat : ClientState) (pending : Pending) → seat.quit ≡ false → seat.client.pending ≡ Some pending → seat.client.seq < CALLS → pending.attempt < ATTEMPTS → can_resend (Some seat) ≡ true
 may_resend seat pending going busy few room =
-    and_from _ _ (and_from _ _ (ap not going) (ap is_open busy)) (and_from _ _ (lt-ltb seat.client.seq (2 ^ 63) few) (room_in seat.client.pending pending busy room))
+    and_from _ _ (and_from _ _ (ap not going) (ap is_open busy)) (and_from _ _ (lt-ltb seat.client.seq CALLS few) (room_in seat.client.pending pending busy room))
 
 module _ {X : Type 0} (seen : X → Contents) (images : X → Image → Type 0) (old : SimulationV X) (run : RunV) (shows : Shows seen images old run) where
   -- the run with an event by which a client changed and sent a request
@@ -70,7 +71,7 @@ module _ {X : Type 0} (seen : X → Contents) (images : X → Image → Type 0) 
     taken = λ place. shows.taken place ∙ ap (λ a. is_taken a place) (sym answered);
   }
 
-  issued_at : (number : ℕ) (seat : ClientState) (call : Call) → seat_at run.trace.world.clients number ≡ Some seat → seat.quit ≡ false → seat.client.pending ≡ None → seat.client.seq < 2 ^ 63 → is_call call ≡ true
+  issued_at : (number : ℕ) (seat : ClientState) (call : Call) → seat_at run.trace.world.clients number ≡ Some seat → seat.quit ≡ false → seat.client.pending ≡ None → seat.client.seq < CALLS → is_call call ≡ true
       → GoesOn run (Issue number call) (Shows seen images (sent_by old (index_of number) (issued seat.client call) (issue_msg seat.client call)))
   issued_at number seat call is going idle few served =
       goes_on run (Issue number call)
@@ -82,7 +83,7 @@ module _ {X : Type 0} (seen : X → Contents) (images : X → Image → Type 0) 
       (ap (past.after_issue run.trace.past number call) is)
       (sent_shows (Issue number call) number seat (issued seat.client call) (issue_msg seat.client call) _ (past.after_issue run.trace.past number call (Some seat)) (λ p. refl) refl going refl refl)
 
-  resent_at : (number : ℕ) (seat : ClientState) (pending : Pending) → seat_at run.trace.world.clients number ≡ Some seat → seat.quit ≡ false → seat.client.pending ≡ Some pending → seat.client.seq < 2 ^ 63 → pending.attempt < 2 ^ 31
+  resent_at : (number : ℕ) (seat : ClientState) (pending : Pending) → seat_at run.trace.world.clients number ≡ Some seat → seat.quit ≡ false → seat.client.pending ≡ Some pending → seat.client.seq < CALLS → pending.attempt < ATTEMPTS
       → GoesOn run (Resend number) (Shows seen images (sent_by old (index_of number) (resent seat.client pending) (resend_msg seat.client pending)))
   resent_at number seat pending is going busy few room =
       goes_on run (Resend number)
@@ -101,18 +102,18 @@ module _ {X : Type 0} (seen : X → Contents) (images : X → Image → Type 0) 
   seat_here number client is = seat_of run.trace.world.clients number client (ap (λ l. client_at l number) shows.clients ∙ is)
 
 module _ {X : Type 0} (seen : X → Contents) (images : X → Image → Type 0) (old : SimulationV X) where
-  pub issue_happens : (number : ℕ) (client : ClientV) (call : Call) → client_at old.clients number ≡ Some client → client.pending ≡ None → client.seq < 2 ^ 63 → is_call call ≡ true
+  pub issue_happens : (number : ℕ) (client : ClientV) (call : Call) → client_at old.clients number ≡ Some client → client.pending ≡ None → client.seq < CALLS → is_call call ≡ true
       → Happens seen images old (sent_by old (index_of number) (issued client call) (issue_msg client call)) (Issue number call)
   issue_happens number client call is idle few served run shows =
       let s = seat_here seen images old run shows number client is in
       subst (λ c. GoesOn run (Issue number call) (Shows seen images (sent_by old (index_of number) (issued c call) (issue_msg c call)))) s.same
       (issued_at seen images old run shows number s.seat call s.is (seat_going seen images old run shows number s.seat s.is)
-      (ap (λ (c : ClientV). c.pending) s.same ∙ idle) (subst (λ (c : ClientV). c.seq < 2 ^ 63) (sym s.same) few) served)
+      (ap (λ (c : ClientV). c.pending) s.same ∙ idle) (subst (λ (c : ClientV). c.seq < CALLS) (sym s.same) few) served)
 
-  pub resend_happens : (number : ℕ) (client : ClientV) (pending : Pending) → client_at old.clients number ≡ Some client → client.pending ≡ Some pending → client.seq < 2 ^ 63 → pending.attempt < 2 ^ 31
+  pub resend_happens : (number : ℕ) (client : ClientV) (pending : Pending) → client_at old.clients number ≡ Some client → client.pending ≡ Some pending → client.seq < CALLS → pending.attempt < ATTEMPTS
       → Happens seen images old (sent_by old (index_of number) (resent client pending) (resend_msg client pending)) (Resend number)
   resend_happens number client pending is busy few room run shows =
       let s = seat_here seen images old run shows number client is in
       subst (λ c. GoesOn run (Resend number) (Shows seen images (sent_by old (index_of number) (resent c pending) (resend_msg c pending)))) s.same
       (resent_at seen images old run shows number s.seat pending s.is (seat_going seen images old run shows number s.seat s.is)
-      (ap (λ (c : ClientV). c.pending) s.same ∙ busy) (subst (λ (c : ClientV). c.seq < 2 ^ 63) (sym s.same) few) room)
+      (ap (λ (c : ClientV). c.pending) s.same ∙ busy) (subst (λ (c : ClientV). c.seq < CALLS) (sym s.same) few) room)

@@ -1,7 +1,8 @@
 -- A simulation shows a run with one event more.
-use Rattle.std.proofs.Common.{◌≡◌, ◌∙◌, sym, ap, subst, refl, ℕ, ◌+◌, ◌<◌, ◌^◌, true, List, [], ◌∷◌, ◌++◌, length, inl}
+use Rattle.std.proofs.Common.{◌≡◌, ◌∙◌, sym, ap, subst, refl, ℕ, ◌+◌, ◌<◌, true, List, [], ◌∷◌, ◌++◌, length, inl}
 use Rattle.std.proofs.lemmas.List.{length-append}
 use Rattle.std.proofs.lemmas.Bool.{lt-ltb}
+use Rattle.mds_base.specs.declared.limits.TheConstants.{MOMENTS}
 use Rattle.mds_out.specs.Disk.{Image, Contents}
 use Rattle.world.specs.declared.event.Event.{Event}
 use Rattle.world.specs.declared.event.Event.TheVariants.{Tick}
@@ -36,10 +37,10 @@ module _ {X : Type 0} (seen : X → Contents) (images : X → Image → Type 0) 
   pub stays_near : (old new : SimulationV X) → new.stores ≡ old.stores → StaysNear seen images old new
   stays_near old new same run shows = inl (subst (λ (l : List (Store X)). AreServers seen images old.setup l run.trace.world.servers) (sym same) shows.servers)
 
-  pub ticked : (old : SimulationV X) (by : ℕ) → old.moment + by < 2 ^ 43 → Happens seen images old (record old { moment = old.moment + by; count = old.count + 1 }) (Tick by)
+  pub ticked : (old : SimulationV X) (by : ℕ) → old.moment + by < MOMENTS → Happens seen images old (record old { moment = old.moment + by; count = old.count + 1 }) (Tick by)
   ticked old by below run shows =
       goes_on run (Tick by) (record run.trace.world { now = run.trace.world.now + by }) run.trace.past (Shows seen images (record old { moment = old.moment + by; count = old.count + 1 }))
-      (lt-ltb (run.trace.world.now + by) (2 ^ 43) (subst (λ n. n + by < 2 ^ 43) (sym shows.moment) below)) refl refl
+      (lt-ltb (run.trace.world.now + by) MOMENTS (subst (λ n. n + by < MOMENTS) (sym shows.moment) below)) refl refl
       (record {
         setup = shows.setup;
         moment = ap (λ n. n + by) shows.moment;

@@ -1,5 +1,5 @@
 -- A client takes a message.
-use Rattle.std.proofs.Common.{◌≡◌, ◌∙◌, sym, ap, subst, refl, ℕ, ◌+◌, ◌<◌, ◌^◌, ◌==◌, Bool, true, false, List, [], ◌∷◌, ◌++◌, Option, Some, None, inl, inr}
+use Rattle.std.proofs.Common.{◌≡◌, ◌∙◌, sym, ap, subst, refl, ℕ, ◌+◌, ◌<◌, ◌==◌, Bool, true, false, List, [], ◌∷◌, ◌++◌, Option, Some, None, inl, inr}
 use Rattle.std.specs.Prelude.{slice_set, ◌||◌}
 use Rattle.std.specs.Prelude.{map as list_map}
 use Rattle.std.specs.List.{slice_get}
@@ -9,6 +9,7 @@ use Rattle.std.specs.Ordering.{nat_cmp}
 use Rattle.std.proofs.lemmas.Bool.{and_from, eq-eqb, ne_eqb, lt-ltb}
 use Rattle.std.proofs.lemmas.List.Folds.{list_any-append}
 use Rattle.std.proofs.lemmas.Map.Lookups.{exact_unsigned}
+use Rattle.mds_base.specs.declared.limits.TheConstants.{ATTEMPTS, CALLS}
 use Rattle.mds_out.specs.Disk.{Image, Contents}
 use Rattle.records.specs.declared.msg.Msg.{Msg}
 use Rattle.client_core.specs.declared.client.Pending.{Pending}
@@ -99,11 +100,11 @@ noted_take h number client place msg (Some pending) places notes = noted_answer 
 
 has_room_of : (p : Option Pending) → HasRoom p → has_room p ≡ true
 has_room_of None room = refl
-has_room_of (Some pending) room = lt-ltb pending.attempt (2 ^ 31) room
+has_room_of (Some pending) room = lt-ltb pending.attempt ATTEMPTS room
 
 module _ {X : Type 0} (seen : X → Contents) (images : X → Image → Type 0) (old : SimulationV X) (run : RunV) (shows : Shows seen images old run) where
   taken_at : (number place : ℕ) (seat : ClientState) (msg : Msg) → seat_at run.trace.world.clients number ≡ Some seat → seat.quit ≡ false → slice_get old.sent place ≡ Some msg → is_for_client number (Some msg) ≡ true
-      → seat.client.seq < 2 ^ 63 → HasRoom seat.client.pending
+      → seat.client.seq < CALLS → HasRoom seat.client.pending
       → GoesOn run (Take number place) (Shows seen images (taken_by old (index_of number) (taking.take seat.client msg) place))
   taken_at number place seat msg is going there meant few room =
       let sent : slice_get run.trace.world.sent place ≡ Some msg = ap (λ l. slice_get l place) shows.sent ∙ there in
@@ -111,7 +112,7 @@ module _ {X : Type 0} (seen : X → Contents) (images : X → Image → Type 0) 
       (set_client run.trace.world number (with_client seat (taking.take seat.client msg).client))
       (past.after_take_of run.trace.past number seat.client place msg seat.client.pending)
       (Shows seen images (taken_by old (index_of number) (taking.take seat.client msg) place))
-      (and_from _ _ (ap can_take is ∙ and_from _ _ (lt-ltb seat.client.seq (2 ^ 63) few) (has_room_of seat.client.pending room)) (ap (is_for_client number) sent ∙ meant))
+      (and_from _ _ (ap can_take is ∙ and_from _ _ (lt-ltb seat.client.seq CALLS few) (has_room_of seat.client.pending room)) (ap (is_for_client number) sent ∙ meant))
       (ap (events.after_take run.trace.world number (slice_get run.trace.world.sent place)) is ∙ ap (events.after_take_of run.trace.world number seat) sent)
       (ap (λ m. past.after_take run.trace.past number place m (seat_at run.trace.world.clients number)) sent ∙ ap (past.after_take run.trace.past number place (Some msg)) is)
       (record {
@@ -129,10 +130,10 @@ module _ {X : Type 0} (seen : X → Contents) (images : X → Image → Type 0) 
       })
 
 pub take_happens : {X : Type 0} (seen : X → Contents) (images : X → Image → Type 0) (old : SimulationV X) (number place : ℕ) (client : ClientV) (msg : Msg) → client_at old.clients number ≡ Some client → slice_get old.sent place ≡ Some msg
-    → is_for_client number (Some msg) ≡ true → client.seq < 2 ^ 63 → HasRoom client.pending
+    → is_for_client number (Some msg) ≡ true → client.seq < CALLS → HasRoom client.pending
     → Happens seen images old (taken_by old (index_of number) (taking.take client msg) place) (Take number place)
 take_happens seen images old number place client msg is there meant few room run shows =
     let s = seat_here seen images old run shows number client is in
     subst (λ c. GoesOn run (Take number place) (Shows seen images (taken_by old (index_of number) (taking.take c msg) place))) s.same
     (taken_at seen images old run shows number place s.seat msg s.is (seat_going seen images old run shows number s.seat s.is) there meant
-    (subst (λ (c : ClientV). c.seq < 2 ^ 63) (sym s.same) few) (subst (λ (c : ClientV). HasRoom c.pending) (sym s.same) room))
+    (subst (λ (c : ClientV). c.seq < CALLS) (sym s.same) few) (subst (λ (c : ClientV). HasRoom c.pending) (sym s.same) room))

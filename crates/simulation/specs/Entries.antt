@@ -7,9 +7,10 @@ use Rattle.mds_base.specs.declared.call.Call.TheVariants.{Lookup}
 use Rattle.mds_base.specs.declared.reply.Reply.{Reply}
 use Rattle.mds_base.specs.declared.reply.Reply.TheVariants.{Said}
 use Rattle.records.specs.declared.msg.Msg.{Msg}
-use Rattle.records.specs.declared.msg.Msg.TheVariants.{Request, Answer}
+use Rattle.records.specs.declared.msg.Msg.TheVariants.{Answer}
 use Rattle.records.specs.declared.record.Record.{Record}
 use Rattle.records.specs.declared.record.Record.TheVariants as records
+use Rattle.node_core.specs.Rules.{request_in}
 use Rattle.simulation.specs.declared.made.Kind.TheVariants as kinds
 use Rattle.simulation.specs.declared.made.Made.{Made}
 use Rattle.simulation.specs.declared.servers.Served.{Served}
@@ -33,9 +34,12 @@ abbrev pub looked_by : Ask → List Msg → ℕ → Option Made
 looked_by ask (Answer client seq attempt reply ∷ []) place = looked ask ask.call reply place
 looked_by ask outputs place = None
 
+abbrev pub looked_in : Option Ask → List Msg → ℕ → Option Made
+looked_in None outputs place = None
+looked_in (Some ask) outputs place = looked_by ask outputs place
+
 abbrev pub lookup_of : Msg → List Msg → ℕ → Option Made
-lookup_of (Request server ask cursor) outputs place = looked_by ask outputs place
-lookup_of msg outputs place = None
+lookup_of msg outputs place = looked_in (request_in msg) outputs place
 
 -- a list with one element more, where there is one
 abbrev pub with_one : {X : Type 0} → List X → Option X → List X

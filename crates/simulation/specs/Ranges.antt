@@ -1,22 +1,15 @@
 -- What holds of a simulation's numbers, so that its calls may be made.
-use Rattle.std.specs.Prelude.{◌≡◌, ℕ, ◌+◌, ◌<◌, ◌≤◌, ◌^◌, List, length, Option, Some, None}
+use Rattle.std.specs.Prelude.{◌≡◌, ℕ, ◌+◌, ◌<◌, ◌≤◌, List, length, Option, Some, None, MatchOption}
+use Rattle.mds_base.specs.declared.limits.TheConstants.{EVENTS, MOMENTS}
 use Rattle.mds_base.specs.declared.setup.Setup.{Setup}
 use Rattle.records.specs.declared.msg.Msg.{Msg}
-use Rattle.records.specs.declared.msg.Msg.TheVariants.{Request, Transfer, Installed}
+use Rattle.records.specs.Messages.{server_of_msg}
 use Rattle.client_core.specs.declared.client.Pending.{Pending}
 use Rattle.client_core.specs.Clients.{ClientV}
 use Rattle.node_store.specs.Serve.{IsMessage, IsWellMade}
 use Rattle.node_store.specs.Store.{Store}
 use Rattle.mds_base.specs.Lists.{Each}
-
-pub record IsSetup (setup : Setup) : Type 0 where
-  pub some_server : 1 ≤ setup.servers
-  pub few_servers : setup.servers ≤ 32
-  pub some_client : 1 ≤ setup.clients
-  pub few_clients : setup.clients ≤ 64
-  pub lease : setup.lease ≤ 1000000
-  pub some_row : 1 ≤ setup.threshold
-  pub few_rows : setup.threshold ≤ 8000
+use Rattle.mds_base.specs.Setups.{IsSetup}
 
 -- an open call is numbered and well made, and its attempts are no more than the events
 pub record IsOpenCall (count seq : ℕ) (pending : Pending) : Type 0 where
@@ -35,17 +28,15 @@ pub record IsSeat (setup : Setup) (count k : ℕ) (client : ClientV) : Type 0 wh
   pub pending : IsOpen count client.seq client.pending
 
 -- a message is well made, and one that is for a server is for one that is there
-abbrev pub IsSent : ℕ → Msg → Type 0
-IsSent servers (Request server ask cursor) = (server < servers) × IsMessage (Request server ask cursor)
-IsSent servers (Transfer server dir part depth index pieces bits sessions top rows) = server < servers
-IsSent servers (Installed server dir part child) = server < servers
-IsSent servers msg = IsMessage msg
+pub record IsSent (servers : ℕ) (msg : Msg) : Type 0 where
+  pub there : MatchOption (server_of_msg msg) (Unit {0}) (λ server. server < servers)
+  pub made : IsMessage msg
 
 -- the parts that calls of a simulation read are within their ranges
 pub record AreRanges {X : Type 0} (setup : Setup) (now count : ℕ) (stores : List (Store X)) (clients : List ClientV) (sent : List Msg) : Type 0 where
   pub setup' : IsSetup setup
-  pub moment : now < 2 ^ 43
-  pub events : count ≤ 2 ^ 20
+  pub moment : now < MOMENTS
+  pub events : count ≤ EVENTS
   pub stores' : length stores ≡ setup.servers
   pub numbers : Each stores (λ s store. (store.server ≡ s) × (store.setup ≡ setup))
   pub clients' : length clients ≡ setup.clients

@@ -5,13 +5,14 @@ use Rattle.std.specs.List.{slice_get}
 use Rattle.std.specs.FinSet as set
 use Rattle.std.specs.declared.cmp.Ordering.{Ordering}
 use Rattle.std.specs.Ordering.{nat_cmp, ordering_then}
+use Rattle.mds_base.specs.declared.ask.Ask.{Ask}
 use Rattle.mds_base.specs.declared.setup.Setup.{Setup}
 use Rattle.records.specs.declared.msg.Msg.{Msg}
-use Rattle.records.specs.declared.msg.Msg.TheVariants.{Request}
 use Rattle.records.specs.Messages.{server_of_msg}
 use Rattle.mds_out.specs.Disk.{Image, Contents}
 use Rattle.client_core.specs.Clients.{ClientV}
 use Rattle.node_core.specs.Nodes.{StoreV, has_numbers}
+use Rattle.node_core.specs.Rules.{request_in}
 use Rattle.node_store.specs.Store.{Store, IsDownAt}
 use Rattle.world.specs.declared.event.Event.{Event}
 use Rattle.world.specs.declared.state.ServerState.{ServerState}
@@ -126,9 +127,13 @@ server_for None = None
 server_for (Some msg) = server_of_msg msg
 
 -- whether a message is a request of a client
+abbrev pub asks_as : ℕ → Option Ask → Bool
+asks_as client None = false
+asks_as client (Some ask) = ask.client == client
+
 abbrev pub is_request_of : ℕ → Option Msg → Bool
-is_request_of client (Some (Request server ask cursor)) = ask.client == client
-is_request_of client msg = false
+is_request_of client None = false
+is_request_of client (Some msg) = asks_as client (request_in msg)
 
 abbrev pub store_is_up : {X : Type 0} → Option (Store X) → Bool
 store_is_up None = false

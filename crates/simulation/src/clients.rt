@@ -1,7 +1,8 @@
 //! The events of a client.
-ghost use Rattle.std.specs.Prelude.{◌≡◌, ◌++◌, ◌∷◌, [], ◌+◌, ◌<◌, ◌≤◌, ◌^◌, true, false, length, Some, IfOk, OnOk, OnErr};
+ghost use Rattle.std.specs.Prelude.{◌≡◌, ◌++◌, ◌∷◌, [], ◌+◌, ◌<◌, ◌≤◌, true, false, length, Some, IfOk, OnOk, OnErr};
 ghost use Rattle.std.specs.List.{slice_get};
 ghost use Rattle.std.specs.FinSet as set;
+ghost use Rattle.mds_base.specs.declared.limits.TheConstants.{EVENTS};
 ghost use Rattle.node_store.specs.Serve.{IsWellMade};
 ghost use Rattle.world.specs.declared.event.Event.TheVariants as Event;
 ghost use Rattle.world.specs.Events.{is_call, is_for_client};
@@ -22,7 +23,7 @@ use std::collections::BTreeSet;
 impl<D: Disk> Simulation<D> {
     /// Sends a client's next call, and answers the place of its request.
     pub fn issue(&mut self, alloc: Global, client: u32, call: Call) -> Result<u64, AllocError>
-        requires room { self.old.count < 2 ^ 20 }
+        requires room { self.old.count < EVENTS }
         requires free { is_idle (client_at self.old.clients client) ≡ true }
         requires made { IsWellMade call }
         requires served { is_call call ≡ true }
@@ -41,7 +42,7 @@ impl<D: Disk> Simulation<D> {
 
     /// Sends a client's open call again, and answers the place of its request.
     pub fn resend(&mut self, alloc: Global, client: u32) -> Result<u64, AllocError>
-        requires room { self.old.count < 2 ^ 20 }
+        requires room { self.old.count < EVENTS }
         requires busy { is_busy (client_at self.old.clients client) ≡ true }
         ensures place { IfOk result (λ place. (place ≡ length self.old.sent) × (length self.new.sent ≡ place + 1)) }
         ensures request { IfOk result (λ place. IsRequestAt self.new client place) }
@@ -57,7 +58,7 @@ impl<D: Disk> Simulation<D> {
 
     /// Has a client take a message, and says what it made of it.
     pub fn take(&mut self, alloc: Global, client: u32, place: u64) -> Result<Taken, AllocError>
-        requires room { self.old.count < 2 ^ 20 }
+        requires room { self.old.count < EVENTS }
         requires client { (1 ≤ client) × (client ≤ self.old.setup.clients) }
         requires message { is_for_client client (slice_get self.old.sent place) ≡ true }
         ensures taken { IfOk result (λ taken. taken_of (client_at self.old.clients client) (slice_get self.old.sent place) ≡ Some taken) }

@@ -9,7 +9,7 @@ ghost use Rattle.world.specs.declared.state.ServerState.{ServerState};
 ghost use Rattle.world.specs.Law.{PastRun};
 ghost use Rattle.simulation.specs.Fuses.{seen_by, images_by};
 ghost use Rattle.simulation.specs.Openings.{OpensFrom, Paired, IsHandedBack, IsUpOn, IsCounted, AreCounted, IsDiskOf, IsOpenFault, IsNotOpened, IsFresh, IsNoDamage};
-ghost use Rattle.simulation.specs.Ranges.{IsSetup};
+ghost use Rattle.mds_base.specs.Setups.{IsSetup};
 ghost use Rattle.simulation.specs.Shows.{AreServers};
 ghost use Rattle.simulation.specs.Starts.{AreDisks, AreReached};
 

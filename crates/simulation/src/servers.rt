@@ -1,8 +1,9 @@
 //! The events of a server.
-ghost use Rattle.std.specs.Prelude.{◌≡◌, ◌≢◌, ◌++◌, ◌∷◌, [], ℕ, ◌+◌, ◌<◌, ◌^◌, true, length, Ok, Some, None, IfOk, IfErr, OnOk, OnErr, IsErrOf};
+ghost use Rattle.std.specs.Prelude.{◌≡◌, ◌≢◌, ◌++◌, ◌∷◌, [], ℕ, ◌+◌, ◌<◌, true, length, Ok, Some, None, IfOk, IfErr, OnOk, OnErr, IsErrOf};
 ghost use Rattle.mds_base.specs.declared.store_fault.StoreFault.TheVariants as StoreFault;
 ghost use Rattle.std.specs.FinSet as set;
 ghost use Rattle.std.specs.List.{slice_get};
+ghost use Rattle.mds_base.specs.declared.limits.TheConstants.{EVENTS, MOMENTS};
 ghost use Rattle.mds_out.specs.Fault.{Rose};
 ghost use Rattle.mds_out.specs.Fused.{fused_faults, OutlastsBy, FailsBy};
 ghost use Rattle.node_core.specs.Nodes.{StoreV};
@@ -55,7 +56,7 @@ pub enum Restarted {
 impl<D: Disk> Simulation<D> {
     /// Has the server of a message serve it.
     pub fn serve(&mut self, alloc: Global, place: u64) -> Result<Served, AllocError>
-        requires room { self.old.count < 2 ^ 20 }
+        requires room { self.old.count < EVENTS }
         requires message { CanServe self.old place }
         ensures ok { IfOk result (λ served. (server : ℕ) → server_for (slice_get self.old.sent place) ≡ Some server → Serves (seen_by D.seen) (images_by D.images) self.old self.new server place served) }
         ensures err { OnErr result (StaysNear (seen_by D.seen) (images_by D.images) self.old self.new) }
@@ -68,8 +69,13 @@ impl<D: Disk> Simulation<D> {
         let Some(server) = self.server_for(place) else {
             unreachable!();
         };
-        let msgs = one_at(self.sent.messages(), place);
-        match self.stores[server as usize].serve_batch(alloc, msgs, self.moment, 0) {
+        match self.stores[server as usize].serve_batch(
+            alloc,
+            &self.sent,
+            &[place],
+            self.moment,
+            0,
+        ) {
             Ok(handled) => {
                 let served = hand_out(alloc, &mut self.sent, &mut self.made, place, handled)?;
                 no_longer_waits(&mut self.waiting, server, place);
@@ -89,7 +95,7 @@ impl<D: Disk> Simulation<D> {
 
     /// A message meets a server that is down.
     pub fn miss(&mut self, place: u64)
-        requires room { self.old.count < 2 ^ 20 }
+        requires room { self.old.count < EVENTS }
         requires message { CanMiss self.old place }
         ensures happens { Happens (seen_by D.seen) (images_by D.images) self.old self.new (Event.Miss place) }
         ensures after { self.new ≡ record self.old { count = self.old.count + 1 } }
@@ -100,7 +106,7 @@ impl<D: Disk> Simulation<D> {
 
     /// Stops a server that is up.
     pub fn stop(&mut self, server: u32)
-        requires room { self.old.count < 2 ^ 20 }
+        requires room { self.old.count < EVENTS }
         requires up { (server < self.old.setup.servers) × (shown.is_up self.old server ≡ true) }
         ensures happens { Happens (seen_by D.seen) (images_by D.images) self.old self.new (Event.Stop server StopCause.Asked) }
         ensures faults { faults_at (fused_faults D.faults) self.new server ≡ faults_at (fused_faults D.faults) self.old server }
@@ -115,7 +121,7 @@ impl<D: Disk> Simulation<D> {
 
     /// Mends the fuse of a server's disk, and brings the server up again.
     pub fn restart(&mut self, alloc: Global, server: u32) -> Result<Restarted, StoreFault>
-        requires room { self.old.count < 2 ^ 20 }
+        requires room { self.old.count < EVENTS }
         requires down { (server < self.old.setup.servers) × (shown.is_up self.old server ≢ true) }
         ensures ok { IfOk result (λ restarted. Restarts (seen_by D.seen) (images_by D.images) self.old self.new server restarted) }
         ensures err { OnErr result (StaysNear (seen_by D.seen) (images_by D.images) self.old self.new) }
@@ -164,7 +170,7 @@ fn revive<D: Disk>(
 ) -> Result<Vec<Made>, StoreFault>
     requires unarmed { store.old.disk.left ≡ None }
     requires down { store.old.up ≡ None }
-    requires moment { moment < 2 ^ 43 }
+    requires moment { moment < MOMENTS }
     ensures ok { IfOk result (λ made. IsRevived (seen_by D.seen) (images_by D.images) store.old store.new moment made.items) }
     ensures err { OnErr result (IsDownStill (seen_by D.seen) (images_by D.images) store.old store.new) }
     ensures sound { IfErr result (λ fault. (owed : StoreV) → IsDownAt (seen_by D.seen) (images_by D.images) store.old owed → IsRefusal (λ _ _ _. ⊥) (D.seen store.new.disk.inner 1) fault) }
@@ -185,15 +191,6 @@ fn revive<D: Disk>(
         }
         Err(fault) => Err(fault),
     }
-}
-
-// The message at a place, alone.
-fn one_at(msgs: &[Msg], place: u64) -> &[Msg]
-    requires { place < length msgs.now }
-    ensures { (msg : Msg) → slice_get msgs.now place ≡ Some msg → result.now ≡ msg ∷ [] }
-{
-    let at = place as usize;
-    &msgs[at..at + 1]
 }
 
 // Sends what a Serve of the message at a place handed out, and makes its entries.

@@ -1,6 +1,7 @@
 ghost use Rattle.std.specs.Prelude.{◌≡◌, ℕ, ◌+◌, ◌<◌, ◌≤◌, ◌^◌, true, Some, MatchOption};
 ghost use Rattle.std.specs.Prelude.{slice_set};
 ghost use Rattle.std.specs.List.{slice_get};
+ghost use Rattle.mds_base.specs.declared.limits.TheConstants.{EVENTS, MOMENTS};
 ghost use Rattle.mds_out.specs.Fused.{Fused};
 ghost use Rattle.node_store.specs.Store.{Store};
 ghost use Rattle.world.specs.declared.event.Event.TheVariants as Event;
@@ -16,6 +17,7 @@ use crate::places::Places;
 use crate::waiting::{is_to, server_of};
 use client_core::Client;
 use mds_base::Setup;
+use mds_base::limits::{SERVE_DIRECTORIES, SERVER_DIRECTORIES};
 use mds_out::{Disk, Fuse};
 use node_store::NodeStore;
 use records::{Msg, MsgList};
@@ -125,7 +127,7 @@ impl<D: Disk> Simulation<D> {
         ensures { result ≡ shown.has_numbers_at self.now server }
     {
         let next = self.stores[server as usize].next_id();
-        next <= (u64::from(server) + 1) * (1 << 40) - (1 << 18)
+        next <= (u64::from(server) + 1) * SERVER_DIRECTORIES - SERVE_DIRECTORIES
     }
 
     /// The server of the message at a place, where one was sent that is for a server: it is one that is there.
@@ -174,8 +176,8 @@ impl<D: Disk> Simulation<D> {
 
     /// Moves the moment on.
     pub fn tick(&mut self, by: u64)
-        requires room { self.old.count < 2 ^ 20 }
-        requires moment { self.old.moment + by < 2 ^ 43 }
+        requires room { self.old.count < EVENTS }
+        requires moment { self.old.moment + by < MOMENTS }
         ensures happens { Happens (seen_by D.seen) (images_by D.images) self.old self.new (Event.Tick by) }
         ensures after { self.new ≡ record self.old { moment = self.old.moment + by; count = self.old.count + 1 } }
     {

@@ -1,5 +1,5 @@
 -- Each enabled event keeps the invariant.
-use Rattle.std.proofs.Common.{◌≡◌, ◌∙◌, sym, ap, subst, refl, ℕ, zero, suc, ◌+◌, ◌^◌, ◌==◌, ◌&&◌, not, Bool, true, false, nat_lt, List, [], ◌∷◌, length, take, Option, Some, None, inl, inr, arith}
+use Rattle.std.proofs.Common.{◌≡◌, ◌∙◌, sym, ap, subst, refl, ℕ, zero, suc, ◌+◌, ◌==◌, ◌&&◌, not, Bool, true, false, nat_lt, List, [], ◌∷◌, length, take, Option, Some, None, inl, inr, arith}
 use Rattle.std.specs.Prelude.{◌⊎◌, ◌||◌}
 use Rattle.std.specs.List.{slice_get, list_all, list_any}
 use Rattle.std.specs.FinSet as set
@@ -40,6 +40,7 @@ use Rattle.world.specs.Histories as past
 use Rattle.world.specs.Histories.{History, Trace, happens, counted, run}
 use Rattle.mds_base.proofs.Grow.{set_here, set_twice, set_same, among_last, among_map}
 use Rattle.std.proofs.lemmas.Bool.{or_cases}
+use Rattle.mds_base.specs.declared.limits.TheConstants.{CALLS}
 use Rattle.mds_base.proofs.Filters.{any_true}
 use Rattle.world.proofs.Invariant.{Inv, IsKeptPart, IsIssueOf}
 use Rattle.world.proofs.Steps.{with_seat, with_msg, open_at, close_at, with_server, does, Tick}
@@ -68,7 +69,7 @@ issue_keeps : (t : Trace) → Inv t → (k : ℕ) (call : Call) (o : Option Clie
 issue_keeps t inv k call None is can = cc
 issue_keeps t inv k call (Some seat) is can =
     let idle : seat.client.pending ≡ None = no_pending seat.client.pending (and_parts (not seat.quit) (not (events.is_open seat.client.pending)) (and_parts _ _ can).0).1 in
-    let served : is_call call ≡ true = (and_parts (nat_lt seat.client.seq (2 ^ 63)) (is_call call) (and_parts _ _ can).1).1 in
+    let served : is_call call ≡ true = (and_parts (nat_lt seat.client.seq CALLS) (is_call call) (and_parts _ _ can).1).1 in
     let t1 : Trace = open_at t k seat call in
     let inv1 : Inv t1 = open_keeps t inv k seat call (record { is = is; idle = idle; served = served }) in
     let sizes = inv.sizes.clients_are.at k seat is in

@@ -1,8 +1,9 @@
 -- What holds of every run at every event: one record of concerns, each over the parts of the run that it reads.
-use Rattle.std.proofs.Common.{◌≡◌, ℕ, suc, ◌+◌, ◌*◌, ◌^◌, ◌<◌, ◌≤◌, true, List, [], ◌∷◌, length, Option, Some, None}
+use Rattle.std.proofs.Common.{◌≡◌, ℕ, suc, ◌+◌, ◌*◌, ◌<◌, ◌≤◌, true, List, [], ◌∷◌, length, Option, Some, None}
 use Rattle.std.specs.Prelude.{◌⊎◌}
 use Rattle.std.specs.List.{slice_get, AllByRecursion}
 use Rattle.std.specs.FinMap as map
+use Rattle.mds_base.specs.declared.limits.TheConstants.{SERVER_DIRECTORIES}
 use Rattle.mds_base.specs.declared.setup.Setup.{Setup}
 use Rattle.mds_base.specs.declared.ask.Ask.{Ask}
 use Rattle.mds_base.specs.declared.call.Call.{Call}
@@ -206,7 +207,7 @@ pub record IsWithinRange (s : ℕ) (store : StoreV) : Type 0 where
   pub to : store.node.next ≤ end_of_numbers s
 
 abbrev pub IsGivenBelow : ℕ → (ℕ → StoreV) → ℕ → Type 0
-IsGivenBelow count stores number = (s : ℕ) → s < count → s * 2 ^ 40 ≤ number → number < (s + 1) * 2 ^ 40 → number < (stores s).node.next
+IsGivenBelow count stores number = (s : ℕ) → s < count → s * SERVER_DIRECTORIES ≤ number → number < (s + 1) * SERVER_DIRECTORIES → number < (stores s).node.next
 
 pub record NumbersKept (count : ℕ) (stores : ℕ → StoreV) (made : List MadeV) : Type 0 where
   pub next_within : (s : ℕ) → s < count → IsWithinRange s (stores s)

@@ -1,9 +1,10 @@
 -- A change that is carried out keeps the rest of the invariant.
-use Rattle.std.proofs.Common.{◌≡◌, ◌∙◌, sym, ap, subst, ℕ, ◌+◌, ◌*◌, ◌^◌, ◌<◌, ◌≤◌, true, false, List, [], ◌∷◌, ◌++◌, length, Some, inl, inr, arith, nat_eq, nat_le}
+use Rattle.std.proofs.Common.{◌≡◌, ◌∙◌, sym, ap, subst, ℕ, ◌+◌, ◌*◌, ◌<◌, ◌≤◌, true, false, List, [], ◌∷◌, ◌++◌, length, Some, inl, inr, arith, nat_eq, nat_le}
 use Rattle.std.specs.Prelude.{slice_set}
 use Rattle.std.specs.List.{slice_get, AllByRecursion}
 use Rattle.std.proofs.lemmas.Bool.Decides.{nat_tests}
 use Rattle.std.proofs.lemmas.List.{append-nil}
+use Rattle.mds_base.specs.declared.limits.TheConstants.{SERVER_DIRECTORIES, SERVE_DIRECTORIES}
 use Rattle.mds_base.specs.declared.call.Call.{Call}
 use Rattle.mds_base.specs.declared.reply.Final.{Final}
 use Rattle.mds_base.specs.declared.reply.Reply.TheVariants.{Said}
@@ -46,7 +47,7 @@ all_map P Q [] f all = tt
 all_map P Q (x ∷ xs) f all = (f x all.0, all_map P Q xs f all.1)
 
 -- a number that a server may give next was not given
-pub not_given : (count : ℕ) (stores : ℕ → StoreV) (s number m : ℕ) → s < count → number ≡ (stores s).node.next → s * 2 ^ 40 ≤ number → number < (s + 1) * 2 ^ 40 → IsGivenBelow count stores m → nat_eq m number ≡ false
+pub not_given : (count : ℕ) (stores : ℕ → StoreV) (s number m : ℕ) → s < count → number ≡ (stores s).node.next → s * SERVER_DIRECTORIES ≤ number → number < (s + 1) * SERVER_DIRECTORIES → IsGivenBelow count stores m → nat_eq m number ≡ false
 not_given count stores s number m lt is from to below =
     elim (nat_or_apart m number) [
       | inl e ↦
@@ -58,7 +59,7 @@ not_given count stores s number m lt is from to below =
 nat_le_true : (a b : ℕ) → nat_le a b ≡ true → a ≤ b
 nat_le_true a b e = grind (arith, nat_tests)
 
-same_range : (j k n : ℕ) → j * 2 ^ 40 ≤ n → n < (j + 1) * 2 ^ 40 → k * 2 ^ 40 ≤ n → n < (k + 1) * 2 ^ 40 → j ≡ k
+same_range : (j k n : ℕ) → j * SERVER_DIRECTORIES ≤ n → n < (j + 1) * SERVER_DIRECTORIES → k * SERVER_DIRECTORIES ≤ n → n < (k + 1) * SERVER_DIRECTORIES → j ≡ k
 same_range j k n a b c d = omega arith
 
 module _ (t : Trace) (inv : Inv t) (s : ℕ) (state : ServerState) (is : slice_get t.world.servers s ≡ Some state) (client seq : ℕ) (call : Call) (dir : ℕ) (name : List ℕ)
@@ -105,11 +106,11 @@ module _ (t : Trace) (inv : Inv t) (s : ℕ) (state : ServerState) (is : slice_g
   s_below : s < servers
   s_below = let w = within t.world.servers s state is in let c = inv.sizes.server_count in omega arith
 
-  room : store.node.next + 2 ^ 18 ≤ end_of_numbers s
+  room : store.node.next + SERVE_DIRECTORIES ≤ end_of_numbers s
   room =
       let e : state.node.server ≡ s = (inv.sizes.servers_are.at s state is).server in
-      let h : store.node.next + 2 ^ 18 ≤ end_of_numbers state.node.server = nat_le_true (store.node.next + 2 ^ 18) (end_of_numbers state.node.server) may.numbers in
-      subst (λ n. store.node.next + 2 ^ 18 ≤ end_of_numbers n) e h
+      let h : store.node.next + SERVE_DIRECTORIES ≤ end_of_numbers state.node.server = nat_le_true (store.node.next + SERVE_DIRECTORIES) (end_of_numbers state.node.server) may.numbers in
+      subst (λ n. store.node.next + SERVE_DIRECTORIES ≤ end_of_numbers n) e h
 
   fresh : GivesFresh (entries_of t.past.made) store.node.next
   fresh =
@@ -173,7 +174,7 @@ module _ (t : Trace) (inv : Inv t) (s : ℕ) (state : ServerState) (is : slice_g
     below_new : (number : ℕ) → IsGivenBelow servers (store_in t.world.servers) number → IsGivenBelow servers new number
     below_new number below k lt from to = elim (nat_or_apart k s) [
       | inl e ↦
-          let old : number < (store_in t.world.servers s).node.next = below s s_below (subst (λ j. j * 2 ^ 40 ≤ number) e from) (subst (λ j. number < (j + 1) * 2 ^ 40) e to) in
+          let old : number < (store_in t.world.servers s).node.next = below s s_below (subst (λ j. j * SERVER_DIRECTORIES ≤ number) e from) (subst (λ j. number < (j + 1) * SERVER_DIRECTORIES) e to) in
           let w = ap (λ (v : StoreV). v.node.next) (was t inv s state is client seq call dir name may) in
           let n = next_here in
           subst (λ j. number < (new j).node.next) (sym e) (omega (arith, old, w, n))

@@ -12,14 +12,15 @@ use Rattle.records.specs.declared.record.Record.{Record}
 use Rattle.node_core.specs.Nodes.{StoreV}
 use Rattle.node_core.specs.Serving.{serve, serve_all, replayed, replayed_all}
 use Rattle.client_core.specs.declared.client.Pending.{Pending}
-use Rattle.client_core.specs.Clients.{ClientV, issued, issue_msg, resent, resend_msg, SendsAgain}
+use Rattle.bitmap.specs.Bits.{Bits}
+use Rattle.client_core.specs.Clients.{ClientV, issued, issue_msg, resent, resend_msg, merged, SendsAgain}
 use Rattle.client_core.specs.Taking as taking
 use Rattle.world.specs.declared.state.ClientState.{ClientState}
 use Rattle.world.specs.declared.state.ServerState.{ServerState}
 use Rattle.world.specs.declared.event.ServeEnd.{ServeEnd}
 use Rattle.world.specs.declared.event.ServeEnd.TheVariants as ends
 use Rattle.world.specs.Worlds.{WorldV, store_of, with_store}
-use Rattle.world.specs.Events.{seat_at, index_of, is_for_server, is_for_client, serves_at, can_issue, can_resend, can_take, can_serve, onto_msgs, after_issue, after_resend, after_resend_of, after_take, after_take_of, after_serve, after_serve_of}
+use Rattle.world.specs.Events.{seat_at, index_of, is_for_server, is_for_client, serves_at, can_issue, can_resend, can_take, can_serve, onto_msgs, after_issue, after_hint, after_resend, after_resend_of, after_take, after_take_of, after_serve, after_serve_of}
 use Rattle.world.proofs.Happens.{two_places}
 
 -- a test that fails where there is nothing passes at places of the list alone
@@ -121,6 +122,12 @@ module _ (i w : WorldV) (same : i ≡ w) (client : ℕ) (seat : ClientState) (re
       let index = index_is client in
       let first : with_client_at new sent ≡ after_issue i client call (Some seat) = cc in
       first ∙ ap (λ x. after_issue x client call (Some seat)) same ∙ ap (after_issue w client call) (sym (seat_in (λ o. can_issue o call) refl can))
+
+  pub hint_is : (dir : ℕ) (bits : Bits) → can_take (seat_at w.clients client) ≡ true → (new : ClientV) → new ≡ merged seat.client dir bits → with_client_at new i.sent ≡ after_hint w client dir bits (seat_at w.clients client)
+  hint_is dir bits can new new_is =
+      let index = index_is client in
+      let first : with_client_at new i.sent ≡ after_hint i client dir bits (Some seat) = cc in
+      first ∙ ap (λ x. after_hint x client dir bits (Some seat)) same ∙ ap (after_hint w client dir bits) (sym (seat_in can_take refl can))
 
   resend_of : (p : Option Pending) (new : ClientV) (msg : Msg) (sent : List Msg) → SendsAgain seat.client new msg p → sent ≡ i.sent ++ msg ∷ [] → with_client_at new sent ≡ after_resend_of i client seat p
   resend_of None new msg sent sends sent_is = absurd sends

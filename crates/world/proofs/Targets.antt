@@ -1,14 +1,17 @@
 -- Where clients send their calls: to a partition that its server keeps.
 use Rattle.std.proofs.Common.{◌≡◌, refl, ℕ, zero, suc, ◌%◌, ◌^◌, ◌<◌, Bool, true, List, arith}
 use Rattle.std.proofs.Math.Nat.{mod-one}
+use Rattle.std.proofs.lemmas.Bool.{and_parts}
 use Rattle.mds_base.specs.declared.TheConstants.{RADIX}
 use Rattle.mds_base.specs.declared.call.Call.{Call}
-use Rattle.mds_base.specs.declared.call.Call.TheVariants.{Create, Mkdir, Remove, Lookup, Setattr, Scan, Grab, Load, Link, Seal, Unseal, Kill, Unlink}
+use Rattle.mds_base.specs.Calls.{is_well_made}
 use Rattle.bitmap.specs.Bits.{has}
 use Rattle.chains.specs.Located.{located, run}
 use Rattle.chains.proofs.RunLengths.{run_before}
 use Rattle.name_hash.specs.NameHash.{hash_of}
 use Rattle.client_core.specs.Clients.{ClientV, bits_in, located_in, target_of}
+use Rattle.node_core.specs.Rules.{is_served}
+use Rattle.node_core.proofs.Calls.{each_served}
 use Rattle.world.specs.Events.{is_call}
 use Rattle.world.proofs.Invariant.{AreKept, IsKeptPart}
 
@@ -24,16 +27,6 @@ located_kept : (client : ClientV) (dir : ℕ) (name : List ℕ) → AreKept clie
 located_kept client dir name kept = located_zero RADIX (hash_of name) (has (bits_in client dir)) (kept dir)
 
 pub target_kept : (client : ClientV) (call : Call) → is_call call ≡ true → AreKept client → IsKeptPart (target_of client call)
-target_kept client (Create dir name) is kept = located_kept client dir name kept
-target_kept client (Mkdir dir name) is kept = located_kept client dir name kept
-target_kept client (Remove dir name) is kept = located_kept client dir name kept
-target_kept client (Lookup dir name) is kept = located_kept client dir name kept
-target_kept client (Setattr dir name mode size stamp) is kept = located_kept client dir name kept
-target_kept client (Scan dir) is kept = refl
-target_kept client (Grab dir name count) is kept = located_kept client dir name kept
-target_kept client (Load dir rows) is kept = refl
-target_kept client (Link dir name id) is kept = located_kept client dir name kept
-target_kept client (Seal dir part epoch) is kept = cc
-target_kept client (Unseal dir part epoch) is kept = cc
-target_kept client (Kill dir epoch) is kept = refl
-target_kept client (Unlink dir name id) is kept = located_kept client dir name kept
+target_kept client call is kept =
+    each_served (λ call. IsKeptPart (target_of client call)) (λ d n. located_kept client d n kept) (λ d n. located_kept client d n kept) (λ d n. located_kept client d n kept) (λ d n mode size stamp. located_kept client d n kept)
+    (λ d n. located_kept client d n kept) call (and_parts (is_served call) (is_well_made call) is).0

@@ -1,56 +1,43 @@
 -- Events keep the ranges of a world's numbers.
-use Rattle.std.proofs.Common.{◌≡◌, ◌∙◌, sym, ap, subst, refl, ℕ, suc, ◌+◌, ◌-◌, ◌^◌, ◌<◌, ◌&&◌, not, Bool, true, false, List, [], ◌∷◌, ◌++◌, get_or, Option, Some, None, arith, append_assoc}
-use Rattle.std.specs.Prelude.{slice_set}
+use Rattle.std.proofs.Common.{◌≡◌, ◌∙◌, sym, ap, subst, refl, ℕ, suc, ◌+◌, ◌-◌, ◌<◌, ◌&&◌, not, Bool, true, false, List, [], ◌∷◌, ◌++◌, get_or, Option, Some, None, Result, Ok, Err, OnOk, OnErr, arith, append_assoc}
+use Rattle.std.specs.Prelude.{slice_set, nat_lt}
 use Rattle.std.specs.Prelude.{map as list_map}
 use Rattle.std.specs.List.{slice_get, range_with_len}
-use Rattle.std.proofs.lemmas.Bool.{and_parts}
-use Rattle.std.proofs.lemmas.Bool.Decides.{nat_tests}
+use Rattle.std.proofs.lemmas.Bool.{and_parts, ltb-true}
 use Rattle.std.proofs.lemmas.List.{append-nil}
 use Rattle.std.proofs.lemmas.List.FromFn.{map-range_with_len_more}
+use Rattle.mds_base.specs.declared.limits.TheConstants.{CALLS, DIRECTORIES, MOMENTS}
 use Rattle.mds_base.specs.declared.setup.Setup.{Setup}
 use Rattle.mds_base.specs.declared.ask.Ask.{Ask}
 use Rattle.mds_base.specs.declared.call.Call.{Call}
-use Rattle.mds_base.specs.declared.call.Call.TheVariants.{Create, Mkdir, Remove, Lookup, Setattr, Scan, Grab, Load, Link, Seal, Unseal, Kill, Unlink}
 use Rattle.records.specs.declared.msg.Msg.{Msg}
 use Rattle.records.specs.declared.msg.Msg.TheVariants.{Request, Redirect, Answer, Busy, Held, Page, Closed, Transfer, Installed}
 use Rattle.node_core.specs.Nodes.{StoreV}
-use Rattle.node_core.specs.Rules.{Outcome, Silent, Looks, Repeats, Carries, outcome}
-use Rattle.node_core.specs.Serving.{serve, served_as}
-use Rattle.node_core.specs.Ranges.{DirFits, RecordFits}
+use Rattle.node_core.specs.Rules.{Outcome, Silent, Looks, Repeats, Carries, outcome, is_served, request_in}
+use Rattle.node_core.specs.Serving.{serve, serve_request, served_as}
+use Rattle.node_core.specs.Ranges.{RequestFits, DirFits, RecordFits}
 use Rattle.client_core.specs.declared.client.Pending.{Pending}
-use Rattle.client_core.specs.Clients.{ClientV, issued, issue_msg, SendsAgain}
-use Rattle.mds_base.specs.Calls.{dir_of}
+use Rattle.bitmap.specs.Bits.{Bits}
+use Rattle.client_core.specs.Clients.{ClientV, issued, issue_msg, merged, SendsAgain}
+use Rattle.mds_base.specs.Calls.{dir_of, is_well_made}
 use Rattle.client_core.specs.Taking.{take, take_at, answered_if, busy_if, held_if, redirected_if}
 use Rattle.client_core.specs.Taking as taking
 use Rattle.world.specs.declared.state.ServerState.{ServerState}
 use Rattle.world.specs.declared.state.ClientState.{ClientState}
 use Rattle.mds_base.specs.Lists.{Each}
-use Rattle.world.specs.Ranges.{IsSetup, AreRanges, PendingFits}
+use Rattle.mds_base.specs.Setups.{IsSetup}
+use Rattle.world.specs.Ranges.{AreRanges, PendingFits}
 use Rattle.world.specs.Worlds.{WorldV, store_of, new_server, new_seat}
-use Rattle.world.specs.Events.{is_dir, is_call, is_open, seat_at, is_for_server, can_issue, can_resend, can_take, can_serve}
+use Rattle.world.specs.Events.{is_call, is_open, seat_at, is_for_server, can_issue, can_resend, can_take, can_serve}
 use Rattle.mds_base.proofs.Grow.{each_push, each_set}
+use Rattle.node_core.proofs.Calls.{well_made_fits}
 use Rattle.world.proofs.Starts.{ranged}
-use Rattle.world.proofs.Stepped.{item_is, seat_place}
+use Rattle.world.proofs.Stepped.{item_is, seat_is, seat_place}
 
 -- Directories
 
-dir_fits : (dir : ℕ) → is_dir dir ≡ true → dir < 2 ^ 48
-dir_fits dir e = grind (arith, nat_tests)
-
-pub call_fits : (call : Call) → is_call call ≡ true → dir_of call < 2 ^ 48
-call_fits (Create dir name) e = dir_fits dir e
-call_fits (Mkdir dir name) e = dir_fits dir e
-call_fits (Remove dir name) e = dir_fits dir e
-call_fits (Lookup dir name) e = dir_fits dir e
-call_fits (Setattr dir name mode size stamp) e = dir_fits dir (and_parts (is_dir dir) _ e).0
-call_fits (Scan dir) e = cc
-call_fits (Grab dir name count) e = cc
-call_fits (Load dir rows) e = cc
-call_fits (Link dir name id) e = cc
-call_fits (Seal dir part epoch) e = cc
-call_fits (Unseal dir part epoch) e = cc
-call_fits (Kill dir epoch) e = cc
-call_fits (Unlink dir name id) e = cc
+pub call_fits : (call : Call) → is_call call ≡ true → dir_of call < DIRECTORIES
+call_fits call e = well_made_fits call (and_parts (is_served call) (is_well_made call) e).1
 
 -- Lists
 
@@ -71,33 +58,25 @@ served_outputs store ask (Looks reply) = each_push _ each_none tt
 served_outputs store ask (Repeats said) = each_push _ each_none tt
 served_outputs store ask (Carries said) = each_push _ each_none tt
 
-pub outputs_fit : (store : StoreV) (msg : Msg) (now : ℕ) → Each (serve store msg now).outputs (λ k m. DirFits m)
-outputs_fit store (Request server ask cursor) now = served_outputs store ask (outcome store ask now)
-outputs_fit store (Redirect client seq attempt dir bits) now = each_none
-outputs_fit store (Answer client seq attempt reply) now = each_none
-outputs_fit store (Busy client seq attempt part depth) now = each_none
-outputs_fit store (Held client seq attempt until) now = each_none
-outputs_fit store (Page client seq attempt rows next) now = each_none
-outputs_fit store (Closed client seq attempt part epoch) now = each_none
-outputs_fit store (Transfer server dir part depth index pieces bits sessions top rows) now = each_none
-outputs_fit store (Installed server dir part child) now = each_none
+request_outputs : (store : StoreV) (request : Option Ask) (now : ℕ) → Each (serve_request store request now).outputs (λ k m. DirFits m)
+request_outputs store None now = each_none
+request_outputs store (Some ask) now = served_outputs store ask (outcome store ask now)
 
-served_records : (store : StoreV) (ask : Ask) (o : Outcome) → dir_of ask.call < 2 ^ 48 → Each (served_as store ask o).records (λ k item. RecordFits item)
+pub outputs_fit : (store : StoreV) (msg : Msg) (now : ℕ) → Each (serve store msg now).outputs (λ k m. DirFits m)
+outputs_fit store msg now = request_outputs store (request_in msg) now
+
+served_records : (store : StoreV) (ask : Ask) (o : Outcome) → dir_of ask.call < DIRECTORIES → Each (served_as store ask o).records (λ k item. RecordFits item)
 served_records store ask Silent fits = each_none
 served_records store ask (Looks reply) fits = each_none
 served_records store ask (Repeats said) fits = each_none
 served_records store ask (Carries said) fits = each_push _ each_none fits
 
+request_records : (store : StoreV) (request : Option Ask) (now : ℕ) → RequestFits request → Each (serve_request store request now).records (λ k item. RecordFits item)
+request_records store None now fits = each_none
+request_records store (Some ask) now fits = served_records store ask (outcome store ask now) fits
+
 pub records_fit : (store : StoreV) (msg : Msg) (now : ℕ) → DirFits msg → Each (serve store msg now).records (λ k item. RecordFits item)
-records_fit store (Request server ask cursor) now fits = served_records store ask (outcome store ask now) fits
-records_fit store (Redirect client seq attempt dir bits) now fits = each_none
-records_fit store (Answer client seq attempt reply) now fits = each_none
-records_fit store (Busy client seq attempt part depth) now fits = each_none
-records_fit store (Held client seq attempt until) now fits = each_none
-records_fit store (Page client seq attempt rows next) now fits = each_none
-records_fit store (Closed client seq attempt part epoch) now fits = each_none
-records_fit store (Transfer server dir part depth index pieces bits sessions top rows) now fits = each_none
-records_fit store (Installed server dir part child) now fits = each_none
+records_fit store msg now fits = request_records store (request_in msg) now fits
 
 -- What taking leaves
 
@@ -172,14 +151,23 @@ module _ {setup : Setup} {now : ℕ} {servers : List ServerState} {clients : Lis
   pub with_server : (s : ℕ) (state : ServerState) → Each state.doubt (λ k item. RecordFits item) → AreRanges setup now (slice_set servers s state) clients sent
   with_server s state fit = record { setup' = ranges.setup'; moment = ranges.moment; doubts = each_set s state ranges.doubts fit; calls = ranges.calls; requests = ranges.requests }
 
-  pub with_moment : (later : ℕ) → later < 2 ^ 43 → AreRanges setup later servers clients sent
+  pub with_moment : (later : ℕ) → later < MOMENTS → AreRanges setup later servers clients sent
   with_moment later fits = record { setup' = ranges.setup'; moment = fits; doubts = ranges.doubts; calls = ranges.calls; requests = ranges.requests }
 
 -- What code reads is within its range, and so is what it writes
 
-issue_fits : (o : Option ClientState) (call : Call) → can_issue o call ≡ true → dir_of call < 2 ^ 48
+issue_fits : (o : Option ClientState) (call : Call) → can_issue o call ≡ true → dir_of call < DIRECTORIES
 issue_fits None call can = cc
 issue_fits (Some seat) call can = call_fits call (and_parts _ (is_call call) (and_parts (not seat.quit && not (is_open seat.client.pending)) _ can).1).1
+
+pub issued_dir : (o : Option ClientState) (call call' : Call) → can_issue o call ≡ true → call' ≡ call → dir_of call' < DIRECTORIES
+issued_dir o call call' can call_is = subst (λ (x : Call). dir_of x < DIRECTORIES) (sym call_is) (issue_fits o call can)
+
+pub issued_room : (i w : WorldV) → i ≡ w → (client : ℕ) (seat : ClientState) → seat ≡ get_or i.clients (client - 1) seat → (call : Call) → can_issue (seat_at w.clients client) call ≡ true → seat.client.seq < CALLS
+issued_room i w same client seat read call can =
+    let can' : can_issue (seat_at i.clients client) call ≡ true = subst (λ (x : WorldV). can_issue (seat_at x.clients client) call ≡ true) (sym same) can in
+    let here : can_issue (Some seat) call ≡ true = sym (ap (λ o. can_issue o call) (seat_is (λ o. can_issue o call) refl i.clients client can' seat read)) ∙ can' in
+    ltb-true seat.client.seq CALLS (and_parts (nat_lt seat.client.seq CALLS) (is_call call) (and_parts (not seat.quit && not (is_open seat.client.pending)) _ here).1).0
 
 sends_fit : (client new : ClientV) (msg : Msg) (p : Option Pending) → SendsAgain client new msg p → PendingFits p → PendingFits new.pending × DirFits msg
 sends_fit client new msg None sends fits = absurd sends
@@ -193,12 +181,12 @@ module _ (i w : WorldV) (same : i ≡ w) (ranges : AreRanges i.setup i.now i.ser
 
     pub issued_fits : (call call' : Call) → can_issue (seat_at w.clients client) call ≡ true → call' ≡ call → (new : ClientV) → new ≡ issued seat.client call' → PendingFits new.pending
     issued_fits call call' can call_is new new_is =
-        subst (λ (x : ClientV). PendingFits x.pending) (sym new_is) (subst (λ x. dir_of x < 2 ^ 48) (sym call_is) (issue_fits (seat_at w.clients client) call can))
+        subst (λ (x : ClientV). PendingFits x.pending) (sym new_is) (subst (λ x. dir_of x < DIRECTORIES) (sym call_is) (issue_fits (seat_at w.clients client) call can))
 
     pub issued_ranges : (call call' : Call) → can_issue (seat_at w.clients client) call ≡ true → call' ≡ call → (new : ClientV) → new ≡ issued seat.client call' → (msg : Msg) → msg ≡ issue_msg seat.client call' → (sent : List Msg) → sent ≡ i.sent ++ msg ∷ []
         → AreRanges i.setup i.now i.servers (slice_set i.clients (client - 1) (record { client = new; quit = seat.quit })) sent
     issued_ranges call call' can call_is new new_is msg msg_is sent sent_is =
-        let fits : dir_of call' < 2 ^ 48 = subst (λ x. dir_of x < 2 ^ 48) (sym call_is) (issue_fits (seat_at w.clients client) call can) in
+        let fits : dir_of call' < DIRECTORIES = subst (λ x. dir_of x < DIRECTORIES) (sym call_is) (issue_fits (seat_at w.clients client) call can) in
         subst (λ xs. AreRanges i.setup i.now i.servers (slice_set i.clients (client - 1) (record { client = new; quit = seat.quit })) xs) (sym sent_is)
         (with_msg (with_seat ranges (client - 1) (record { client = new; quit = seat.quit }) (issued_fits call call' can call_is new new_is)) msg
         (subst DirFits (sym msg_is) fits))
@@ -212,6 +200,10 @@ module _ (i w : WorldV) (same : i ≡ w) (ranges : AreRanges i.setup i.now i.ser
         let fits = sends_fit seat.client new msg seat.client.pending sends (seat_fits can_resend refl can) in
         subst (λ xs. AreRanges i.setup i.now i.servers (slice_set i.clients (client - 1) (record { client = new; quit = seat.quit })) xs) (sym sent_is)
         (with_msg (with_seat ranges (client - 1) (record { client = new; quit = seat.quit }) fits.0) msg fits.1)
+
+    pub hinted_fits : {T E : Type 0} → can_take (seat_at w.clients client) ≡ true → (dir : ℕ) (bits : Bits) (result : Result T E) (new : ClientV) → OnOk result (new ≡ merged seat.client dir bits) → OnErr result (new ≡ seat.client) → PendingFits new.pending
+    hinted_fits can dir bits (Ok x) new ok err = subst (λ (x : ClientV). PendingFits x.pending) (sym ok) (seat_fits can_take refl can)
+    hinted_fits can dir bits (Err e) new ok err = subst (λ (x : ClientV). PendingFits x.pending) (sym err) (seat_fits can_take refl can)
 
     pub taken_fits : can_take (seat_at w.clients client) ≡ true → (msg : Msg) (new : ClientV) → new ≡ (take seat.client msg).client → PendingFits new.pending
     taken_fits can msg new new_is = subst (λ (x : ClientV). PendingFits x.pending) (sym new_is) (take_fits seat.client msg (seat_fits can_take refl can))

@@ -1,13 +1,15 @@
 -- When an event is enabled in a world, and the world after it.
-use Rattle.std.specs.Prelude.{ℕ, zero, suc, ◌+◌, ◌^◌, ◌&&◌, ◌||◌, ◌==◌, not, Bool, true, false, List, [], ◌∷◌, ◌++◌, length, take, slice_set, Option, Some, None, nat_le, nat_lt}
+use Rattle.std.specs.Prelude.{ℕ, zero, suc, ◌+◌, ◌^◌, ◌&&◌, ◌||◌, ◌==◌, not, Bool, true, false, List, [], ◌∷◌, ◌++◌, length, take, slice_set, Option, Some, None, nat_lt}
 use Rattle.std.specs.List.{slice_get, list_all, list_any}
 use Rattle.std.specs.FinSet as set
+use Rattle.mds_base.specs.declared.limits.TheConstants.{ATTEMPTS, CALLS, MOMENTS}
 use Rattle.mds_base.specs.declared.call.Call.{Call}
-use Rattle.mds_base.specs.declared.call.Call.TheVariants.{Create, Mkdir, Remove, Lookup, Setattr, Scan, Grab, Load, Link, Seal, Unseal, Kill, Unlink}
+use Rattle.mds_base.specs.Calls.{is_well_made}
 use Rattle.records.specs.declared.msg.Msg.{Msg}
 use Rattle.records.specs.Messages.{server_of_msg, client_of_msg}
 use Rattle.bitmap.specs.Bits.{Bits, has}
 use Rattle.node_core.specs.Nodes.{StoreV, has_numbers}
+use Rattle.node_core.specs.Rules.{is_served}
 use Rattle.node_core.specs.Serving.{ServedV, serve_all, replayed_all, restarted}
 use Rattle.client_core.specs.declared.client.Pending.{Pending}
 use Rattle.client_core.specs.Clients.{ClientV, issued, issue_msg, resent, resend_msg, merged, bits_in}
@@ -24,24 +26,9 @@ use Rattle.world.specs.Worlds.{WorldV, store_of, with_store}
 
 -- When an event is enabled
 
-abbrev pub is_dir : ℕ → Bool
-is_dir dir = nat_le 1 dir && nat_lt dir (2 ^ 48)
-
--- a call that is within its ranges and is served at all; scans, grabs, loads and links are not yet
+-- a call that is served, each of its numbers within its range
 abbrev pub is_call : Call → Bool
-is_call (Create dir name) = is_dir dir
-is_call (Mkdir dir name) = is_dir dir
-is_call (Remove dir name) = is_dir dir
-is_call (Lookup dir name) = is_dir dir
-is_call (Setattr dir name mode size stamp) = is_dir dir && nat_le mode 4095
-is_call (Scan dir) = false
-is_call (Grab dir name count) = false
-is_call (Load dir rows) = false
-is_call (Link dir name id) = false
-is_call (Seal dir part epoch) = false
-is_call (Unseal dir part epoch) = false
-is_call (Kill dir epoch) = false
-is_call (Unlink dir name id) = false
+is_call call = is_served call && is_well_made call
 
 -- whether a number that may be there is this one
 abbrev pub is_one : ℕ → Option ℕ → Bool
@@ -60,7 +47,7 @@ is_for_client client (Some msg) = is_one client (client_of_msg msg)
 -- the attempts of an open call leave room for further ones
 abbrev pub has_room : Option Pending → Bool
 has_room None = true
-has_room (Some pending) = nat_lt pending.attempt (2 ^ 31)
+has_room (Some pending) = nat_lt pending.attempt ATTEMPTS
 
 abbrev pub is_open : Option Pending → Bool
 is_open None = false
@@ -68,15 +55,15 @@ is_open (Some pending) = true
 
 abbrev pub can_issue : Option ClientState → Call → Bool
 can_issue None call = false
-can_issue (Some seat) call = (not seat.quit && not (is_open seat.client.pending)) && (nat_lt seat.client.seq (2 ^ 63) && is_call call)
+can_issue (Some seat) call = (not seat.quit && not (is_open seat.client.pending)) && (nat_lt seat.client.seq CALLS && is_call call)
 
 abbrev pub can_resend : Option ClientState → Bool
 can_resend None = false
-can_resend (Some seat) = (not seat.quit && is_open seat.client.pending) && (nat_lt seat.client.seq (2 ^ 63) && has_room seat.client.pending)
+can_resend (Some seat) = (not seat.quit && is_open seat.client.pending) && (nat_lt seat.client.seq CALLS && has_room seat.client.pending)
 
 abbrev pub can_take : Option ClientState → Bool
 can_take None = false
-can_take (Some seat) = nat_lt seat.client.seq (2 ^ 63) && has_room seat.client.pending
+can_take (Some seat) = nat_lt seat.client.seq CALLS && has_room seat.client.pending
 
 abbrev pub can_give_up : Option ClientState → Bool
 can_give_up None = false
@@ -141,7 +128,7 @@ enabled w (Hint client dir bits) = can_take (seat_at w.clients client) && are_kn
 enabled w (Remind server) = is_up (slice_get w.servers server)
 enabled w (Stop server cause) = can_stop (slice_get w.servers server) cause
 enabled w (Restart server kept) = can_restart (slice_get w.servers server) kept
-enabled w (Tick by) = nat_lt (w.now + by) (2 ^ 43)
+enabled w (Tick by) = nat_lt (w.now + by) MOMENTS
 enabled w (GiveUp client) = can_give_up (seat_at w.clients client)
 enabled w (Verdict client verdict) = true
 

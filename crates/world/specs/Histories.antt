@@ -12,11 +12,10 @@ use Rattle.mds_base.specs.Entries.{Entries}
 use Rattle.mds_base.specs.PlainRules.{after}
 use Rattle.mds_base.specs.History.{IsLegal}
 use Rattle.records.specs.declared.msg.Msg.{Msg}
-use Rattle.records.specs.declared.msg.Msg.TheVariants.{Request}
 use Rattle.records.specs.declared.record.Record.{Record}
 use Rattle.records.specs.declared.record.Record.TheVariants.{Served}
 use Rattle.node_core.specs.Nodes.{StoreV}
-use Rattle.node_core.specs.Rules.{Outcome, Looks, Carries, outcome}
+use Rattle.node_core.specs.Rules.{Outcome, Looks, Carries, outcome, request_in}
 use Rattle.node_core.specs.Serving.{serve, may_follow, replayed}
 use Rattle.client_core.specs.declared.client.Pending.{Pending}
 use Rattle.client_core.specs.declared.taken.Taken.{Taken}
@@ -110,9 +109,12 @@ served_as h ask place (Carries said) = changed h ask.client ask.seq ask.call sai
 served_as h ask place (Looks reply) = looked h ask reply place
 served_as h ask place outcome = h
 
+abbrev pub served_request : History → StoreV → Option Ask → ℕ → ℕ → History
+served_request h store None now place = h
+served_request h store (Some ask) now place = served_as h ask place (outcome store ask now)
+
 abbrev pub served_one : History → StoreV → Msg → ℕ → ℕ → History
-served_one h store (Request to ask cursor) now place = served_as h ask place (outcome store ask now)
-served_one h store msg now place = h
+served_one h store msg now place = served_request h store (request_in msg) now place
 
 -- messages were served one after another, what they send beginning at this place
 abbrev pub served_all : History → StoreV → List Msg → ℕ → ℕ → History

@@ -1,5 +1,6 @@
 -- The ranges of a world's numbers.
-use Rattle.std.specs.Prelude.{ℕ, ◌^◌, ◌<◌, ◌≤◌, List, Option, Some, None}
+use Rattle.std.specs.Prelude.{ℕ, ◌<◌, List, Option, Some, None}
+use Rattle.mds_base.specs.declared.limits.TheConstants.{DIRECTORIES, MOMENTS}
 use Rattle.mds_base.specs.declared.setup.Setup.{Setup}
 use Rattle.records.specs.declared.msg.Msg.{Msg}
 use Rattle.node_core.specs.Ranges.{DirFits, RecordFits}
@@ -8,24 +9,17 @@ use Rattle.mds_base.specs.Calls.{dir_of}
 use Rattle.world.specs.declared.state.ServerState.{ServerState}
 use Rattle.world.specs.declared.state.ClientState.{ClientState}
 use Rattle.mds_base.specs.Lists.{Each}
-
--- what a run may be started with
-pub record IsSetup (setup : Setup) : Type 0 where
-  pub some_servers : 1 ≤ setup.servers
-  pub servers : setup.servers ≤ 32
-  pub some_clients : 1 ≤ setup.clients
-  pub clients : setup.clients ≤ 64
-  pub lease : setup.lease ≤ 1000000
+use Rattle.mds_base.specs.Setups.{IsSetup}
 
 -- an open call is on a directory whose number is within its range
 abbrev pub PendingFits : Option Pending → Type 0
 PendingFits None = Unit {0}
-PendingFits (Some pending) = dir_of pending.call < 2 ^ 48
+PendingFits (Some pending) = dir_of pending.call < DIRECTORIES
 
 -- each directory that a call, a message or a record in doubt names has a number within its range
 pub record AreRanges (setup : Setup) (now : ℕ) (servers : List ServerState) (clients : List ClientState) (sent : List Msg) : Type 0 where
   pub setup' : IsSetup setup
-  pub moment : now < 2 ^ 43
+  pub moment : now < MOMENTS
   pub doubts : Each servers (λ s state. Each state.doubt (λ k item. RecordFits item))
   pub calls : Each clients (λ k seat. PendingFits seat.client.pending)
   pub requests : Each sent (λ k msg. DirFits msg)

@@ -1,12 +1,14 @@
 ghost use Rattle.std.specs.Prelude.{◌≡◌, ◌&&◌, not};
 ghost use Rattle.std.specs.Option.{option_copied};
 ghost use Rattle.std.specs.List.{slice_get};
-ghost use Rattle.world.specs.Events.{is_dir, is_call, is_one, is_for_server, is_for_client, can_issue, can_resend, can_take, can_give_up, can_serve, is_up, is_there, is_down_at, misses, can_restart, can_stop, is_known, seat_at, serves_at, are_known};
+ghost use Rattle.world.specs.Events.{is_call, is_one, is_for_server, is_for_client, can_issue, can_resend, can_take, can_give_up, can_serve, is_up, is_there, is_down_at, misses, can_restart, can_stop, is_known, seat_at, serves_at, are_known};
 
 use crate::event::StopCause;
 use crate::state::{ClientState, ServerState};
 use bitmap::Bitmap;
+use mds_base::limits::{ATTEMPTS, CALLS};
 use mds_base::{Call, PlaceList, RADIX};
+use node_core::is_served;
 use records::Msg;
 
 /// The client of a number.
@@ -33,7 +35,7 @@ pub fn can_issue(seat: Option<&ClientState>, call: &Call) -> bool
     match seat {
         None => false,
         Some(seat) => {
-            (!seat.quit && !seat.client.busy()) && (seat.client.seq() < 1 << 63 && is_call(call))
+            (!seat.quit && !seat.client.busy()) && (seat.client.seq() < CALLS && is_call(call))
         }
     }
 }
@@ -46,7 +48,7 @@ pub fn can_resend(seat: Option<&ClientState>) -> bool
         None => false,
         Some(seat) => {
             (!seat.quit && seat.client.busy())
-                && (seat.client.seq() < 1 << 63 && seat.client.attempt() < 1 << 31)
+                && (seat.client.seq() < CALLS && seat.client.attempt() < ATTEMPTS)
         }
     }
 }
@@ -57,7 +59,7 @@ pub fn can_take(seat: Option<&ClientState>) -> bool
 {
     match seat {
         None => false,
-        Some(seat) => seat.client.seq() < 1 << 63 && seat.client.attempt() < 1 << 31,
+        Some(seat) => seat.client.seq() < CALLS && seat.client.attempt() < ATTEMPTS,
     }
 }
 
@@ -74,27 +76,7 @@ pub fn can_give_up(seat: Option<&ClientState>) -> bool
 fn is_call(call: &Call) -> bool
     ensures { result ≡ is_call call.now }
 {
-    match call {
-        Call::Create { dir, .. } => is_dir(*dir),
-        Call::Mkdir { dir, .. } => is_dir(*dir),
-        Call::Remove { dir, .. } => is_dir(*dir),
-        Call::Lookup { dir, .. } => is_dir(*dir),
-        Call::Setattr { dir, mode, .. } => is_dir(*dir) && *mode <= 4095,
-        Call::Scan { .. } => false,
-        Call::Grab { .. } => false,
-        Call::Load { .. } => false,
-        Call::Link { .. } => false,
-        Call::Seal { .. } => false,
-        Call::Unseal { .. } => false,
-        Call::Kill { .. } => false,
-        Call::Unlink { .. } => false,
-    }
-}
-
-fn is_dir(dir: u64) -> bool
-    ensures { result ≡ is_dir dir }
-{
-    1 <= dir && dir < 1 << 48
+    is_served(call) && call.is_well_made()
 }
 
 /// Whether a server may serve a message.

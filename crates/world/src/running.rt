@@ -1,5 +1,5 @@
 ghost use Rattle.std.specs.Prelude.{IfOk};
-ghost use Rattle.world.specs.Ranges.{IsSetup};
+ghost use Rattle.mds_base.specs.Setups.{IsSetup};
 ghost use Rattle.world.specs.Runs.{RunsAs, HoldsIfWhole};
 
 use crate::event::Event;

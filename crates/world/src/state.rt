@@ -1,5 +1,6 @@
-ghost use Rattle.std.specs.Prelude.{◌≡◌, ◌^◌, ◌<◌, ◌≤◌, true, false, take, length, IfOk, OnOk, OnErr};
+ghost use Rattle.std.specs.Prelude.{◌≡◌, ◌<◌, ◌≤◌, true, false, take, length, IfOk, OnOk, OnErr};
 ghost use Rattle.std.specs.FinMap as map;
+ghost use Rattle.mds_base.specs.declared.limits.TheConstants.{LEASE_MOST, MOMENTS, SERVERS_MOST};
 ghost use Rattle.node_core.specs.Nodes.{has_numbers};
 ghost use Rattle.node_core.specs.Serving.{serve, replayed_all, restarted};
 ghost use Rattle.node_core.specs.Ranges.{DirFits, RecordFits};
@@ -30,8 +31,8 @@ impl ServerState {
     /// A server that is up and on which nothing happened yet.
     pub(crate) fn new(alloc: Global, number: u32, setup: Setup) -> ServerState
         requires in_setup { number < setup.servers }
-        requires servers { setup.servers ≤ 32 }
-        requires lease { setup.lease ≤ 1000000 }
+        requires servers { setup.servers ≤ SERVERS_MOST }
+        requires lease { setup.lease ≤ LEASE_MOST }
         ensures { result ≡ new_server setup number }
     {
         ServerState {
@@ -50,7 +51,7 @@ impl ServerState {
         now: u64,
     ) -> Result<MsgList, AllocError>
         requires fits { DirFits msg.now }
-        requires moment { now < 2 ^ 43 }
+        requires moment { now < MOMENTS }
         requires numbers { has_numbers self.old.node ≡ true }
         ensures outputs { IfOk result (λ outputs. outputs ≡ (serve (store_of self.old) msg.now now).outputs) }
         ensures ok { OnOk result (self.new ≡ with_store self.old (serve (store_of self.old) msg.now now).store) }
@@ -71,7 +72,7 @@ impl ServerState {
         now: u64,
     ) -> Result<(), AllocError>
         requires fits { DirFits msg.now }
-        requires moment { now < 2 ^ 43 }
+        requires moment { now < MOMENTS }
         ensures ok { OnOk result (self.new ≡ record { node = self.old.node; rows = self.old.rows; up = false; doubt = (serve (store_of self.old) msg.now now).records }) }
         ensures err { OnErr result (self.new ≡ self.old) }
     {

@@ -1,7 +1,8 @@
-ghost use Rattle.std.specs.Prelude.{◌≡◌, ◌+◌, ◌^◌, ◌<◌, ◌∷◌, [], true, IfOk, OnOk, map};
+ghost use Rattle.std.specs.Prelude.{◌≡◌, ◌+◌, ◌<◌, ◌∷◌, [], true, IfOk, OnOk, map};
 ghost use Rattle.std.specs.List.{range_with_len, slice_get};
+ghost use Rattle.mds_base.specs.declared.limits.TheConstants.{MOMENTS};
 ghost use Rattle.world.specs.Worlds.{new_world, new_server, new_seat};
-ghost use Rattle.world.specs.Ranges.{IsSetup};
+ghost use Rattle.mds_base.specs.Setups.{IsSetup};
 ghost use Rattle.world.specs.Runs.{LeadsOn};
 ghost use Rattle.world.specs.Events.{enabled, step, seat_at, can_issue, can_resend, can_take, can_give_up, can_serve, can_restart, is_there, is_for_client, is_for_server, serves_at, after_issue, after_resend, after_take, after_hint, after_give_up, after_serve, after_stop, after_restart};
 
@@ -12,6 +13,7 @@ use crate::enabling::{
 use crate::event::{Event, ServeEnd};
 use crate::state::{ClientState, ServerState};
 use bitmap::Bitmap;
+use mds_base::limits::MOMENTS;
 use mds_base::{Call, PlaceList, Setup};
 use records::{Msg, MsgList};
 use std::alloc::{AllocError, Global};
@@ -187,7 +189,7 @@ impl World {
     fn can_tick(&self, by: u64) -> bool
         ensures { result ≡ enabled self.now (Event.Tick by) }
     {
-        by < (1 << 43) - self.moment
+        by < MOMENTS - self.moment
     }
 
     fn issue(&mut self, alloc: Global, client: u32, call: &Call) -> Result<(), AllocError>
@@ -293,7 +295,7 @@ impl World {
     }
 
     fn tick(&mut self, by: u64)
-        requires { self.old.now + by < 2 ^ 43 }
+        requires { self.old.now + by < MOMENTS }
         ensures { self.new ≡ step self.old (Event.Tick by) }
     {
         self.moment += by;

@@ -1,8 +1,9 @@
-use Rattle.std.proofs.Common.{◌∙◌, ◌+◌, ◌≤◌, arith, List, ℕ, Option, subst}
+use Rattle.std.proofs.Common.{◌+◌, ◌≤◌, arith, List, ℕ, Option, subst}
 use Rattle.mds_out.specs.Known.{OnTold}
-use Rattle.mds_out.proofs.Moments.{both}
+use Rattle.mds_out.proofs.Calling.{reading_on}
 use Rattle.gate_log.specs.Steps.{IsBodyAt}
-use Rattle.gate_log.proofs.Scans.{more, none, unchanged_twice, same_twice}
+use Rattle.gate_log.proofs.Readings.{reading_answers}
+use Rattle.gate_log.proofs.Scans.{more, none}
 use Rattle.gate_log.proofs.scan.end_of.Goals as goal
 
 pub returns-then-size-eq0-clause-found : goal.returns-then-size-eq0-clause-found
@@ -17,12 +18,7 @@ gates-preserved g c =
     let P : Option (List ℕ) → Type 0 = λ seen. OnTold seen (IsBodyAt c.gates.place c.in-Body.next) in
     record {
       within = onward.1;
-      scanned = more (g.D.Disk.seen c.args.disk.now c.args.file) c.gates.place c.in-Body.next before.scanned (subst P (before.unchanged.bytes c.args.file) step);
-      unchanged = unchanged_twice _ _ _ _ _ _ before.unchanged c.step_at.ensures.unchanged;
-      same = same_twice _ _ _ before.same c.step_at.ensures.crash;
-      moment = both g.D.Disk.moment g.D.Disk.images_since c.args.disk.now c.gates.disk c.step_at.new.disk (g.D.Disk.images c.args.disk.now) (g.D.Disk.images c.gates.disk) (g.D.Disk.images c.args.disk.now) before.moment c.step_at.ensures.any_moment (λ image is. is) before.same.no_other;
-      lasting = g.met.D.Disk.lasts_on _ _ _ before.lasting c.step_at.ensures.lasts;
-      quiet = c.in_ok-step_at.ensures.cause.kept ∙ before.quiet;
+      scanned = more (g.D.Disk.seen c.args.disk.now c.args.file) c.gates.place c.in-Body.next before.scanned (subst P (before.calls.unchanged.bytes c.args.file) step);
+      calls = reading_answers (reading_on g.D.Disk.lasts g.D.Disk.fails g.met.D.Disk.lasts_on g.met.D.Disk.fails_after before.calls c.in_ok-step_at.ensures.call) tt;
       asked = omega (arith, before.asked, c.step_at.ensures.asked, next_is);
-      changes = c.step_at.ensures.changes ∙ before.changes;
     }

@@ -1,6 +1,6 @@
-use Rattle.std.proofs.Common.{◌≡◌, ◌+◌, ◌-◌, ◌<◌, ◌≤◌}
+use Rattle.std.proofs.Common.{◌+◌, ◌-◌, ◌<◌, ◌≤◌, Ok}
 use Rattle.mds_out.specs.Known.{OnTold}
-use Rattle.mds_out.specs.Disk.{IsUnchanged, AreSame, LeavesOnly}
+use Rattle.mds_out.specs.Disk.{IsReading}
 use Rattle.gate_log.specs.Found.{IsScanned}
 use Rattle.gate_log.proofs.scan.end_of.Given as goal
 
@@ -8,13 +8,8 @@ abbrev pub invariant-gates : goal.invariant-gates
 invariant-gates g l = record {
   within : l.place < l.size;
   scanned : OnTold (g.D.Disk.seen l.fn.disk l.file) (IsScanned l.place);
-  unchanged : IsUnchanged (g.D.Disk.seen l.fn.disk) (g.D.Disk.seen l.disk) (g.D.Disk.sizes l.fn.disk) (g.D.Disk.sizes l.disk);
-  same : AreSame (g.D.Disk.images l.fn.disk) (g.D.Disk.images l.disk);
-  moment : LeavesOnly g.D.Disk.moment g.D.Disk.images_since l.fn.disk l.disk (g.D.Disk.images l.fn.disk);
-  lasting : g.D.Disk.lasts l.fn.disk l.disk;
-  quiet : g.D.Disk.faults l.disk ≡ g.D.Disk.faults l.fn.disk;
+  calls : IsReading {T = Unit {0}} g.D.Disk.seen g.D.Disk.sizes g.D.Disk.images g.D.Disk.moment g.D.Disk.images_since g.D.Disk.faults g.D.Disk.changes_asked g.D.Disk.lasts g.D.Disk.fails l.fn.disk l.disk (Ok tt);
   asked : g.D.Disk.asked l.disk ≤ g.D.Disk.asked l.fn.disk + l.place;
-  changes : g.D.Disk.changes_asked l.disk ≡ g.D.Disk.changes_asked l.fn.disk;
 }
 
 abbrev pub decreases-gates : goal.decreases-gates

@@ -23,6 +23,6 @@ returns-in-Some-2-clause-refused g c =
     let wrong = rw c.in-Some-2.is at c.in_ok-read_head.ensures in
     let P : List ℕ → Type 0 = λ body. IsWrongHead c.args.server c.args.setup body c.in-Some-2.damage in (
       refl,
-      first_wrong seen (g.D.Disk.seen c.next_body.new.disk c.args.log.now.file) (c.next_body.ensures.unchanged.bytes c.args.log.now.file) c.args.log.now c.args.server c.args.setup c.in-Some.next c.next_body.new.into.items c.in-Some-2.damage
+      first_wrong seen (g.D.Disk.seen c.next_body.new.disk c.args.log.now.file) (c.next_body.ensures.call.unchanged.bytes c.args.log.now.file) c.args.log.now c.args.server c.args.setup c.in-Some.next c.next_body.new.into.items c.in-Some-2.damage
           (has [] (none_read seen c.args.log.now (g.D.Disk.images c.args.disk.now) c.requires.ready.told)) (subst P c.deref.ensures.value wrong),
     )

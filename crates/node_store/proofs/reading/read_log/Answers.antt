@@ -1,12 +1,11 @@
 use Rattle.std.proofs.Common.{◌∙◌, ◌<◌, ℕ, Some, subst}
 use Rattle.mds_base.specs.declared.setup.Setup.{Setup}
 use Rattle.mds_out.specs.Known.{OnTold}
-use Rattle.mds_out.proofs.Moments.{both}
 use Rattle.gate_log.specs.Calls.{IsSomeGate}
 use Rattle.gate_log.specs.LogState.{LogState, IsReady}
-use Rattle.gate_log.proofs.Scans.{unchanged_twice, same_twice}
 use Rattle.node_core.specs.Nodes.{StoreV}
 use Rattle.node_store.specs.Reading.{HasReplayed, ReplaysOn}
+use Rattle.node_store.proofs.Stores.{reads_on}
 use Rattle.node_store.proofs.reading.read_log.Goals as goal
 
 pub bodies-preserved : goal.bodies-preserved
@@ -28,11 +27,7 @@ bodies-preserved g c =
       within = subst W before.log (rw c.in-Some.is at c.in_ok-next.ensures.onward).1;
       log = c.in_ok-next.ensures.same ∙ before.log;
       ready = subst R before.log c.in_ok-next.ensures.ready;
-      unchanged = unchanged_twice _ _ _ _ _ _ before.unchanged c.replay_at.ensures.unchanged;
-      same = same_twice _ _ _ before.same c.replay_at.ensures.crash;
-      moment = both g.D.Disk.moment g.D.Disk.images_since c.args.disk.now c.bodies.disk c.replay_at.new.disk (g.D.Disk.images c.args.disk.now) (g.D.Disk.images c.bodies.disk) (g.D.Disk.images c.args.disk.now) before.moment c.replay_at.ensures.any_moment (λ image is. is) before.same.no_other;
-      lasting = g.met.D.Disk.lasts_on _ _ _ before.lasting c.replay_at.ensures.lasts;
-      quiet = c.in_ok-next.ensures.cause.kept ∙ before.quiet;
+      calls = reads_on g.met.D.Disk.lasts_on before.calls c.in_ok-next.ensures.call;
     }
 
 pub returns-in-None-clause-node : goal.returns-in-None-clause-node

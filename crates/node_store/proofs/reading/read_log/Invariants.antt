@@ -1,8 +1,8 @@
-use Rattle.std.proofs.Common.{◌≡◌, ◌-◌, ◌<◌}
+use Rattle.std.proofs.Common.{◌≡◌, ◌-◌, ◌<◌, Ok}
 use Rattle.mds_out.specs.Known.{OnTold}
-use Rattle.mds_out.specs.Disk.{IsUnchanged, AreSame, LeavesOnly}
 use Rattle.gate_log.specs.Calls.{IsSomeGate}
 use Rattle.gate_log.specs.LogState.{IsReady}
+use Rattle.node_store.specs.Disks.{IsStoreReading}
 use Rattle.node_store.specs.Parts.{IsNodeOf}
 use Rattle.node_store.specs.Reading.{HasReplayed}
 use Rattle.node_store.proofs.reading.read_log.Given as goal
@@ -16,11 +16,7 @@ invariant-bodies g l = record {
   within : l.gate < l.fn.log.length;
   log : l.log ≡ l.fn.log;
   ready : IsReady l.fn.log (g.D.Disk.seen l.disk) (g.D.Disk.sizes l.disk) (g.D.Disk.images l.disk);
-  unchanged : IsUnchanged (g.D.Disk.seen l.fn.disk) (g.D.Disk.seen l.disk) (g.D.Disk.sizes l.fn.disk) (g.D.Disk.sizes l.disk);
-  same : AreSame (g.D.Disk.images l.fn.disk) (g.D.Disk.images l.disk);
-  moment : LeavesOnly g.D.Disk.moment g.D.Disk.images_since l.fn.disk l.disk (g.D.Disk.images l.fn.disk);
-  lasting : g.D.Disk.lasts l.fn.disk l.disk;
-  quiet : g.D.Disk.faults l.disk ≡ g.D.Disk.faults l.fn.disk;
+  calls : IsStoreReading {T = Unit {0}} g.D.Disk.seen g.D.Disk.sizes g.D.Disk.images g.D.Disk.moment g.D.Disk.images_since g.D.Disk.faults g.D.Disk.changes_asked g.D.Disk.lasts g.D.Disk.fails l.fn.disk l.disk (Ok tt);
 }
 
 abbrev pub decreases-bodies : goal.decreases-bodies

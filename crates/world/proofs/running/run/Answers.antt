@@ -23,5 +23,5 @@ returns-clause-ran c =
 pub returns-clause-law : goal.returns-clause-law
 returns-clause-law c =
     let inv = c.loop-place.invariant in
-    holds_whole c.args.setup c.args.events.now c.loop-place.world c.requires.some_servers
+    holds_whole c.args.setup c.args.events.now c.loop-place.world c.requires.some_server
     (runs_whole c.args.setup c.args.events.now c.loop-place.place c.loop-place.world inv.enabled' inv.world' (omega arith))

@@ -22,4 +22,4 @@ pub returns-in-Ok-clause-read : goal.returns-in-Ok-clause-read
 returns-in-Ok-clause-read g c =
     let seen = g.D.Disk.seen c.args.disk.now c.args.self.now.file in
     let given : (before after : List (List ℕ)) → OnTold seen (IsGateAt c.args.self.now c.args.at before after) → OnTold seen (IsReplayed c.args.self.now before after (Some c.in-Ok.next) c.body_at.new.into.items) = search rules in
-    reads_on seen (g.D.Disk.seen c.body_at.new.disk c.args.self.now.file) c.args.self.now c.args.at (Some c.in-Ok.next) c.body_at.new.into.items (c.body_at.ensures.unchanged.bytes c.args.self.now.file) given
+    reads_on seen (g.D.Disk.seen c.body_at.new.disk c.args.self.now.file) c.args.self.now c.args.at (Some c.in-Ok.next) c.body_at.new.into.items (c.body_at.ensures.call.unchanged.bytes c.args.self.now.file) given

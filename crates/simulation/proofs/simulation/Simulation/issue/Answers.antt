@@ -1,4 +1,5 @@
-use Rattle.std.proofs.Common.{sym, subst, refl, ◌<◌, ◌^◌, arith}
+use Rattle.std.proofs.Common.{sym, subst, refl, ◌<◌, arith}
+use Rattle.mds_base.specs.declared.limits.TheConstants.{EVENTS}
 use Rattle.mds_out.specs.Fused.{Fused}
 use Rattle.simulation.specs.Fuses.{seen_by, images_by}
 use Rattle.simulation.specs.Shows.{SimulationV, is_idle}
@@ -19,13 +20,13 @@ issue-requires-clause-fits g c = made_fits c.args.call c.requires.made
 pub invariant_of-self : goal.invariant_of-self
 invariant_of-self g c =
     let free = is_free _ _ c.args.client c.index_mut.result.now c.self.view_is c.requires.free c.index_mut.ensures.value in
-    let room = subst (λ (v : SimulationV (Fused g.row.D.Denot)). v.count < 2 ^ 20) (sym c.self.view_is) c.requires.room in
+    let room = subst (λ (v : SimulationV (Fused g.row.D.Denot)). v.count < EVENTS) (sym c.self.view_is) c.requires.room in
     (ranged_refused _ _ _ _ _ _ c.self.invariant.0 room _ _ free.at.place c.issue.new.self c.in_err-request.ensures.err, c.self.invariant.1, c.self.invariant.2)
 
 pub invariant_of-self-2 : goal.invariant_of-self-2
 invariant_of-self-2 g c =
     let free = is_free _ _ c.args.client c.index_mut.result.now c.self.view_is c.requires.free c.index_mut.ensures.value in
-    let room = subst (λ (v : SimulationV (Fused g.row.D.Denot)). v.count < 2 ^ 20) (sym c.self.view_is) c.requires.room in (
+    let room = subst (λ (v : SimulationV (Fused g.row.D.Denot)). v.count < EVENTS) (sym c.self.view_is) c.requires.room in (
       ranged_issued _ _ _ _ _ _ c.self.invariant.0 room _ _ free.at.place c.args.call c.issue.new.self c.in_ok-request.request c.send.new.sent _ _ c.send.result c.requires.made c.in_ok-request.ensures.client c.in_ok-request.ensures.ok c.send.ensures,
       c.self.invariant.1,
       c.self.invariant.2,
@@ -37,7 +38,7 @@ returns-clause-place g c = send_place _ _ c.send.new.sent _ _ c.send.result c.in
 pub returns-clause-request : goal.returns-clause-request
 returns-clause-request g c =
     let free = is_free _ _ c.args.client c.index_mut.result.now c.self.view_is c.requires.free c.index_mut.ensures.value in
-    let room = subst (λ (v : SimulationV (Fused g.row.D.Denot)). v.count < 2 ^ 20) (sym c.self.view_is) c.requires.room in
+    let room = subst (λ (v : SimulationV (Fused g.row.D.Denot)). v.count < EVENTS) (sym c.self.view_is) c.requires.room in
     issue_asks _ _ _ _ _ _ c.self.invariant.0 room c.args.client _ free.at _ c.args.call c.in_ok-request.request c.send.new.sent _ _ c.send.result refl refl c.requires.made c.in_ok-request.ensures.ok c.send.ensures
 
 pub returns-clause-ok : goal.returns-clause-ok

@@ -1,4 +1,5 @@
-use Rattle.std.proofs.Common.{sym, subst, refl, ◌<◌, ◌^◌, arith}
+use Rattle.std.proofs.Common.{sym, subst, refl, ◌<◌, arith}
+use Rattle.mds_base.specs.declared.limits.TheConstants.{EVENTS}
 use Rattle.mds_out.specs.Fused.{Fused}
 use Rattle.simulation.specs.Fuses.{seen_by, images_by}
 use Rattle.simulation.specs.Shows.{SimulationV, is_busy}
@@ -13,13 +14,13 @@ resend-requires g c =
 pub invariant_of-self : goal.invariant_of-self
 invariant_of-self g c =
     let open_call = is_waiting _ _ c.args.client c.index_mut.result.now c.self.view_is c.requires.busy c.index_mut.ensures.value in
-    let room = subst (λ (v : SimulationV (Fused g.row.D.Denot)). v.count < 2 ^ 20) (sym c.self.view_is) c.requires.room in
+    let room = subst (λ (v : SimulationV (Fused g.row.D.Denot)). v.count < EVENTS) (sym c.self.view_is) c.requires.room in
     (ranged_refused _ _ _ _ _ _ c.self.invariant.0 room _ _ open_call.at.place c.resend.new.self c.in_err-request.ensures.err, c.self.invariant.1, c.self.invariant.2)
 
 pub invariant_of-self-2 : goal.invariant_of-self-2
 invariant_of-self-2 g c =
     let open_call = is_waiting _ _ c.args.client c.index_mut.result.now c.self.view_is c.requires.busy c.index_mut.ensures.value in
-    let room = subst (λ (v : SimulationV (Fused g.row.D.Denot)). v.count < 2 ^ 20) (sym c.self.view_is) c.requires.room in
+    let room = subst (λ (v : SimulationV (Fused g.row.D.Denot)). v.count < EVENTS) (sym c.self.view_is) c.requires.room in
     let again = sends_again _ c.resend.new.self c.in_ok-request.request open_call.pending open_call.busy c.in_ok-request.ensures.ok in (
       ranged_resent _ _ _ _ _ _ c.self.invariant.0 room _ _ open_call.at.place open_call.pending c.resend.new.self c.in_ok-request.request c.send.new.sent _ _ c.send.result open_call.busy again.1 again.0 c.send.ensures,
       c.self.invariant.1,
@@ -32,7 +33,7 @@ returns-clause-place g c = send_place _ _ c.send.new.sent _ _ c.send.result c.in
 pub returns-clause-request : goal.returns-clause-request
 returns-clause-request g c =
     let open_call = is_waiting _ _ c.args.client c.index_mut.result.now c.self.view_is c.requires.busy c.index_mut.ensures.value in
-    let room = subst (λ (v : SimulationV (Fused g.row.D.Denot)). v.count < 2 ^ 20) (sym c.self.view_is) c.requires.room in
+    let room = subst (λ (v : SimulationV (Fused g.row.D.Denot)). v.count < EVENTS) (sym c.self.view_is) c.requires.room in
     let again = sends_again _ c.resend.new.self c.in_ok-request.request open_call.pending open_call.busy c.in_ok-request.ensures.ok in
     resend_asks _ _ _ _ _ _ c.self.invariant.0 room c.args.client _ open_call.at _ open_call.pending c.in_ok-request.request c.send.new.sent _ _ c.send.result refl refl open_call.busy again.0 c.send.ensures
 

@@ -1,4 +1,5 @@
-use Rattle.std.proofs.Common.{◌∙◌, sym, subst, ap, Err, ◌<◌, ◌^◌}
+use Rattle.std.proofs.Common.{◌∙◌, sym, subst, ap, Err, ◌<◌}
+use Rattle.mds_base.specs.declared.limits.TheConstants.{EVENTS}
 use Rattle.mds_out.specs.Fault.{Rose}
 use Rattle.mds_out.specs.Fused.{Fused, fused_faults}
 use Rattle.simulation.specs.Fuses.{seen_by, images_by}
@@ -35,14 +36,14 @@ pub invariant_of-self-in-Ok : goal.invariant_of-self-in-Ok
 invariant_of-self-in-Ok g c =
     let s = down_at _ _ c.args.server c.index_mut-store.result.now c.self.view_is c.requires.down c.self.invariant.0.stores' c.index_mut-store.ensures.value in
     let m = mended_still g.D.Disk.seen g.D.Disk.images c.index_mut-store.result.now c.mend.new.self c.mend.ensures in
-    let room = subst (λ (v : SimulationV (Fused g.row.D.Denot)). v.count < 2 ^ 20) (sym c.self.view_is) c.requires.room in
+    let room = subst (λ (v : SimulationV (Fused g.row.D.Denot)). v.count < EVENTS) (sym c.self.view_is) c.requires.room in
     (ranged_more _ _ _ _ _ _ c.self.invariant.0 c.args.server c.index_mut-store.result.now c.revive.new.store s.is (c.in-Ok.ensures.same.0 ∙ m.server) (c.in-Ok.ensures.same.1 ∙ m.setup) _ room c.self.invariant.0.sent', c.self.invariant.1, c.self.invariant.2)
 
 pub invariant_of-self-in-Device : goal.invariant_of-self-in-Device
 invariant_of-self-in-Device g c =
     let s = down_at _ _ c.args.server c.index_mut-store.result.now c.self.view_is c.requires.down c.self.invariant.0.stores' c.index_mut-store.ensures.value in
     let m = mended_still g.D.Disk.seen g.D.Disk.images c.index_mut-store.result.now c.mend.new.self c.mend.ensures in
-    let room = subst (λ (v : SimulationV (Fused g.row.D.Denot)). v.count < 2 ^ 20) (sym c.self.view_is) c.requires.room in
+    let room = subst (λ (v : SimulationV (Fused g.row.D.Denot)). v.count < EVENTS) (sym c.self.view_is) c.requires.room in
     (ranged_more _ _ _ _ _ _ c.self.invariant.0 c.args.server c.index_mut-store.result.now c.revive.new.store s.is (c.in-Err.ensures.same.0 ∙ m.server) (c.in-Err.ensures.same.1 ∙ m.setup) _ room c.self.invariant.0.sent', c.self.invariant.1, c.self.invariant.2)
 
 pub invariant_of-self-in_default : goal.invariant_of-self-in_default

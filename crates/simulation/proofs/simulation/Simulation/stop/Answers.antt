@@ -1,4 +1,5 @@
-use Rattle.std.proofs.Common.{sym, subst, ap, ◌<◌, ◌^◌}
+use Rattle.std.proofs.Common.{sym, subst, ap, ◌<◌}
+use Rattle.mds_base.specs.declared.limits.TheConstants.{EVENTS}
 use Rattle.mds_out.specs.Fused.{Fused, fused_faults}
 use Rattle.world.specs.declared.event.Event.TheVariants.{Stop}
 use Rattle.world.specs.declared.event.StopCause.TheVariants.{Asked}
@@ -19,7 +20,7 @@ halt-requires g c =
 pub invariant_of-self : goal.invariant_of-self
 invariant_of-self g c =
     let s = up_store _ _ c.args.server c.index_mut.result.now c.self.view_is c.requires.up.1 c.index_mut.ensures.value in
-    let room = subst (λ (v : SimulationV (Fused g.row.D.Denot)). v.count < 2 ^ 20) (sym c.self.view_is) c.requires.room in (
+    let room = subst (λ (v : SimulationV (Fused g.row.D.Denot)). v.count < EVENTS) (sym c.self.view_is) c.requires.room in (
       ranged_more _ _ _ _ _ _ c.self.invariant.0 c.args.server c.index_mut.result.now c.halt.new.self s.is
           (ap (λ (v : Store (Fused g.row.D.Denot)). v.server) c.halt.ensures.stopped) (ap (λ (v : Store (Fused g.row.D.Denot)). v.setup) c.halt.ensures.stopped) _ room c.self.invariant.0.sent',
       c.self.invariant.1,

@@ -1,4 +1,5 @@
-use Rattle.std.proofs.Common.{◌∙◌, sym, ap, subst, get_or, ◌<◌, ◌^◌}
+use Rattle.std.proofs.Common.{◌∙◌, sym, ap, subst, get_or, ◌<◌}
+use Rattle.mds_base.specs.declared.limits.TheConstants.{EVENTS}
 use Rattle.mds_out.specs.Fused.{Fused}
 use Rattle.simulation.specs.Fuses.{seen_by, images_by}
 use Rattle.simulation.specs.Shows.{SimulationV}
@@ -13,19 +14,19 @@ take-requires g c =
 pub invariant_of-self : goal.invariant_of-self
 invariant_of-self g c =
     let at = is_numbered _ _ c.args.client c.index_mut.result.now c.self.view_is c.requires.client c.self.invariant.0.clients' c.index_mut.ensures.value in
-    let room = subst (λ (v : SimulationV (Fused g.row.D.Denot)). v.count < 2 ^ 20) (sym c.self.view_is) c.requires.room in
+    let room = subst (λ (v : SimulationV (Fused g.row.D.Denot)). v.count < EVENTS) (sym c.self.view_is) c.requires.room in
     (ranged_refused _ _ _ _ _ _ c.self.invariant.0 room _ _ at.place c.take.new.self c.in_err-taken.ensures.err, c.self.invariant.1, c.self.invariant.2)
 
 pub invariant_of-self-in_err-note_taken : goal.invariant_of-self-in_err-note_taken
 invariant_of-self-in_err-note_taken g c =
     let at = is_numbered _ _ c.args.client c.index_mut.result.now c.self.view_is c.requires.client c.self.invariant.0.clients' c.index_mut.ensures.value in
-    let room = subst (λ (v : SimulationV (Fused g.row.D.Denot)). v.count < 2 ^ 20) (sym c.self.view_is) c.requires.room in
+    let room = subst (λ (v : SimulationV (Fused g.row.D.Denot)). v.count < EVENTS) (sym c.self.view_is) c.requires.room in
     (ranged_taken _ _ _ _ _ _ c.self.invariant.0 room _ _ at.place c.take.new.self _ c.in_ok-taken.ensures.ok.client', c.self.invariant.1, c.self.invariant.2)
 
 pub invariant_of-self-2 : goal.invariant_of-self-2
 invariant_of-self-2 g c =
     let at = is_numbered _ _ c.args.client c.index_mut.result.now c.self.view_is c.requires.client c.self.invariant.0.clients' c.index_mut.ensures.value in
-    let room = subst (λ (v : SimulationV (Fused g.row.D.Denot)). v.count < 2 ^ 20) (sym c.self.view_is) c.requires.room in
+    let room = subst (λ (v : SimulationV (Fused g.row.D.Denot)). v.count < EVENTS) (sym c.self.view_is) c.requires.room in
     (ranged_taken _ _ _ _ _ _ c.self.invariant.0 room _ _ at.place c.take.new.self _ c.in_ok-taken.ensures.ok.client', c.self.invariant.1, c.self.invariant.2)
 
 pub returns-clause-taken : goal.returns-clause-taken

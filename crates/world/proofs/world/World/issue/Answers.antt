@@ -2,8 +2,15 @@ use Rattle.std.proofs.Common.{◌-◌, ◌∙◌, sym, ap, subst}
 use Rattle.client_core.specs.Clients.{issue_msg, issued}
 use Rattle.world.specs.Ranges.{AreRanges}
 use Rattle.world.proofs.Stepped.{issue_is}
-use Rattle.world.proofs.Within.{with_seat, issued_fits, issued_ranges}
+use Rattle.world.specs.Events.{seat_at}
+use Rattle.world.proofs.Within.{with_seat, issued_dir, issued_room, issued_fits, issued_ranges}
 use Rattle.world.proofs.world.World.issue.Goals as goal
+
+pub issue-requires-clause-fits : goal.issue-requires-clause-fits
+issue-requires-clause-fits c = issued_dir (seat_at c.args.self.now.clients c.args.client) c.args.call.now c.in_ok-call.call c.requires c.in_ok-call.ensures
+
+pub issue-requires-clause-room : goal.issue-requires-clause-room
+issue-requires-clause-room c = issued_room _ c.args.self.now c.self.view_is c.args.client c.index_mut-seat.result.now c.index_mut-seat.ensures.value c.args.call.now c.requires
 
 pub invariant_of-self-in_err-push : goal.invariant_of-self-in_err-push
 invariant_of-self-in_err-push c =

@@ -4,4 +4,4 @@ use Rattle.world.proofs.world.World.step.Goals as goal
 
 pub returns-clause-law : goal.returns-clause-law
 returns-clause-law c =
-    on_ok_weaker c.carry_out.result (leads_on c.args.self.now c.args.event.now c.carry_out.new.self c.setup-setup.ensures.is_setup.some_servers c.requires) c.carry_out.ensures
+    on_ok_weaker c.carry_out.result (leads_on c.args.self.now c.args.event.now c.carry_out.new.self c.setup-setup.ensures.is_setup.some_server c.requires) c.carry_out.ensures
