@@ -480,7 +480,7 @@ pub record NameOf (text name : List ℕ) : Type 0 where
   pub text_is : text ≡ length name ∷ name
   pub named : IsTrue (is_name name)
 
-name_short : (name : List ℕ) → IsTrue (is_name name) → (1 ≤ length name) × (length name ≤ 255)
+pub name_short : (name : List ℕ) → IsTrue (is_name name) → (1 ≤ length name) × (length name ≤ 255)
 name_short name named =
     let sizes = and_first (nat_le 1 (length name) && nat_le (length name) 255) (not (is_dots name)) (and_first (nat_le 1 (length name) && nat_le (length name) 255 && not (is_dots name)) (list_all is_name_byte name) named) in
     let low = and_first (nat_le 1 (length name)) (nat_le (length name) 255) sizes in

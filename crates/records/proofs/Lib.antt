@@ -9,3 +9,4 @@ pub mod Calls
 pub mod Finals
 pub mod Records
 pub mod Fronts
+pub mod Lengths
