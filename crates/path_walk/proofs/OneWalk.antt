@@ -1,0 +1,2 @@
+-- A path and answers have one walk.
+use Rattle.std.proofs.Common.{◌≡◌}

@@ -1,0 +1,1 @@
+use Rattle.path_walk.proofs.names.names_along.Goals as goal
