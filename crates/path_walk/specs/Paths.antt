@@ -1,5 +1,5 @@
 -- What a path says: the names of its components, where each of them spells one.
-use Rattle.std.specs.Prelude.{ℕ, ◌+◌, ◌≡◌, List, [], ◌∷◌, Option, Some, None, Result, Ok, Err, nat_lt, ◌==◌, if◌then◌else◌, length, filter}
+use Rattle.std.specs.Prelude.{ℕ, ◌+◌, ◌≡◌, List, [], ◌∷◌, Option, Some, None, Result, Ok, Err, not, ◌==◌, if◌then◌else◌, length, slice_index, filter}
 use Rattle.std.specs.List.{slice_split}
 use Rattle.script.specs.Reading.{name_of}
 use Rattle.path_walk.specs.declared.fault.PathFault.{PathFault}
@@ -7,7 +7,7 @@ use Rattle.path_walk.specs.declared.fault.PathFault.TheVariants.{BadPath, OutOfM
 
 -- what stands between the slashes, where something does
 abbrev pub components : List ℕ → List (List ℕ)
-components path = filter (λ piece. nat_lt 0 (length piece)) (slice_split (λ byte. byte == 47) path)
+components path = filter (λ piece. not (length piece == 0)) (slice_split (λ byte. byte == 47) path)
 
 -- the names that components spell, in their order, or the place of the first that spells none; they have the places
 -- from `at` on
@@ -25,8 +25,7 @@ names_from at (component ∷ rest) = onto_spelled at (name_of component) (names_
 
 -- the names along a path, or the place at which it is bad; a path that does not begin with a slash is bad at 0
 abbrev pub names_along : List ℕ → Result (List (List ℕ)) ℕ
-names_along [] = Err 0
-names_along (byte ∷ bytes) = if byte == 47 then names_from 0 (components (byte ∷ bytes)) else Err 0
+names_along path = if slice_index path 0 == 47 then names_from 0 (components path) else Err 0
 
 -- what reading a path answers: the names along it, the place at which it is bad, or want of memory
 abbrev pub Reads : {X : Type 0} → (X → List (List ℕ)) → Result X PathFault → Result (List (List ℕ)) ℕ → Type 0

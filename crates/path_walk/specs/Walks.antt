@@ -1,5 +1,5 @@
 -- A walk along a path: the asks that it makes, one a name, and what it comes to by their answers.
-use Rattle.std.specs.Prelude.{ℕ, ◌+◌, ◌≡◌, List, [], ◌∷◌, ◌++◌, Bool, true, false, ◌&&◌, Result, Ok, Err, MatchBool}
+use Rattle.std.specs.Prelude.{ℕ, ◌+◌, ◌≡◌, List, [], ◌∷◌, ◌++◌, Bool, false, Result, Ok, Err, MatchBool}
 use Rattle.mds_base.specs.declared.attr.Attr.{Attr}
 use Rattle.mds_base.specs.declared.walked.Walked.{Walked}
 use Rattle.mds_base.specs.declared.walked.Walked.TheVariants as verdicts

@@ -22,6 +22,7 @@ pub trait Asker {
 
     /// Looks a name up in the directory of this number. A refused ask, for want of memory, does not count.
     fn ask(&mut self, alloc: Global, dir: u64, name: &Name) -> Result<Asked, AllocError>
-        ensures ok { IfOk result (λ answer. asks self.new ≡ asks self.old ++ record { dir = dir; name = name.now; answer = answer } ∷ []) }
+        ensures ok { IfOk result (λ answer. asks self.new
+            ≡ asks self.old ++ record { dir = dir; name = name.now; answer = answer } ∷ []) }
         ensures err { OnErr result (asks self.new ≡ asks self.old) };
 }

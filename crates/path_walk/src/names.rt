@@ -1,5 +1,5 @@
 //! Reads a path: the names of its components.
-ghost use Rattle.std.specs.Prelude.{◌≡◌, ◌<◌, ◌≤◌, ◌^◌, ◌∷◌, length, IfOk, MatchBool};
+ghost use Rattle.std.specs.Prelude.{◌≡◌, ◌<◌, ◌≤◌, ◌^◌, ◌==◌, length, slice_index, IfOk};
 ghost use Rattle.path_walk.specs.Paths.{names_along, Reads, ReadsOne};
 ghost use Rattle.script.specs.Reading.{name_of};
 
@@ -13,15 +13,27 @@ pub(crate) fn names_along(alloc: Global, path: &[u8]) -> Result<Vec<Name>, PathF
     ensures names { Reads (λ names. names.items) result (names_along path.now) }
     ensures few { IfOk result (λ names. length names.items ≤ 2 ^ 32) }
 {
-    if path.first() != Some(&b'/') {
+    if !begins_with_slash(path) {
         return Err(PathFault::BadPath { at: 0 });
     }
     let mut names = Vec::new(alloc);
-    for component in path.split(|byte| *byte == b'/').filter(|piece| !piece.is_empty()) {
+    for component in path
+        .split(|byte| *byte == b'/')
+        .filter(|piece| !piece.is_empty())
+    {
         let name = name_at(alloc, names.len(), component)?;
         names.push(name)?;
     }
     Ok(names)
+}
+
+fn begins_with_slash(path: &[u8]) -> bool
+    ensures { result ≡ (slice_index path.now 0 == 47) }
+{
+    match path {
+        [] => false,
+        [first, ..] => *first == b'/',
+    }
 }
 
 /// The name that the component at this place spells. Places past those of a verdict are more than memory has.

@@ -15,8 +15,10 @@ const ROOT: u64 = 1;
 /// known. `BadPath` comes before anything is asked. Where it is refused for want of memory, what was answered so far
 /// stays asked.
 pub fn walk<A: Asker>(alloc: Global, asker: &mut A, path: &[u8]) -> Result<Walked, AllocError>
-    ensures ok { IfOk result (λ verdict. (asks : List Ask) × (A.asks asker.new ≡ A.asks asker.old ++ asks) × IsWalk path.now asks verdict) }
-    ensures err { OnErr result ((asks : List Ask) × (A.asks asker.new ≡ A.asks asker.old ++ asks) × BeginsWalk path.now asks) }
+    ensures ok { IfOk result (λ verdict. (asks : List Ask)
+        × (A.asks asker.new ≡ A.asks asker.old ++ asks) × IsWalk path.now asks verdict) }
+    ensures err { OnErr result ((asks : List Ask)
+        × (A.asks asker.new ≡ A.asks asker.old ++ asks) × BeginsWalk path.now asks) }
 {
     match names_along(alloc, path) {
         Ok(names) => walk_names(alloc, asker, names.as_slice()),
@@ -28,8 +30,10 @@ pub fn walk<A: Asker>(alloc: Global, asker: &mut A, path: &[u8]) -> Result<Walke
 /// Walks along names from the root on.
 fn walk_names<A: Asker>(alloc: Global, asker: &mut A, names: &[Name]) -> Result<Walked, AllocError>
     requires { length names.now ≤ 2 ^ 32 }
-    ensures ok { IfOk result (λ verdict. (asks : List Ask) × (A.asks asker.new ≡ A.asks asker.old ++ asks) × Walks 0 root names.now asks verdict) }
-    ensures err { OnErr result ((asks : List Ask) × (A.asks asker.new ≡ A.asks asker.old ++ asks) × BeginsAlong (Ok names.now) asks) }
+    ensures ok { IfOk result (λ verdict. (asks : List Ask)
+        × (A.asks asker.new ≡ A.asks asker.old ++ asks) × Walks 0 root names.now asks verdict) }
+    ensures err { OnErr result ((asks : List Ask)
+        × (A.asks asker.new ≡ A.asks asker.old ++ asks) × BeginsAlong (Ok names.now) asks) }
 {
     let mut here = Attr::new_directory(ROOT);
     for (at, name) in names.iter().enumerate() {
