@@ -4,22 +4,23 @@ use Rattle.std.proofs.lemmas.List.{append-nil, at_drop_more, at_drop_all}
 use Rattle.mds_base.specs.declared.attr.Attr.{Attr}
 use Rattle.mds_base.specs.declared.walked.Walked.{Walked}
 use Rattle.mds_base.specs.declared.walked.Walked.TheVariants as verdicts
+use Rattle.path_walk.specs.declared.asker.Lookup.{Lookup}
 use Rattle.path_walk.specs.declared.asker.Asked.{Asked}
 use Rattle.path_walk.specs.declared.asker.Asked.TheVariants.{Found, Missing, Unanswered}
 use Rattle.mds_base.specs.Entries.{is_file}
-use Rattle.path_walk.specs.Walks.{Ask, After, Ends, Walks, BeginsAlong, root, ends_at}
+use Rattle.path_walk.specs.Walks.{After, Ends, Walks, BeginsAlong, root, ends_at}
 
 -- what was asked along the names before this place led to what was found here: a walk from here on is one of the whole
-pub record HasCome (names : List (List ℕ)) (place : ℕ) (here : Attr) (start now : List Ask) : Type 0 where
-  pub asks : List Ask
+pub record HasCome (names : List (List ℕ)) (place : ℕ) (here : Attr) (start now : List Lookup) : Type 0 where
+  pub asks : List Lookup
   pub asked : now ≡ start ++ asks
-  pub on : (more : List Ask) → (verdict : Walked) → Walks place here (drop place names) more verdict → Walks 0 root names (asks ++ more) verdict
+  pub on : (more : List Lookup) → (verdict : Walked) → Walks place here (drop place names) more verdict → Walks 0 root names (asks ++ more) verdict
 
-pub set_out : (names : List (List ℕ)) (start : List Ask) → HasCome names 0 root start start
+pub set_out : (names : List (List ℕ)) (start : List Lookup) → HasCome names 0 root start start
 set_out names start = record { asks = []; asked = sym (append-nil start); on = λ more verdict w. w }
 
 -- no names are left
-pub arrived : (names : List (List ℕ)) (place : ℕ) (here : Attr) (start now : List Ask) → length names ≤ place → HasCome names place here start now → (asks : List Ask) × (now ≡ start ++ asks) × Walks 0 root names asks (verdicts.Found here)
+pub arrived : (names : List (List ℕ)) (place : ℕ) (here : Attr) (start now : List Lookup) → length names ≤ place → HasCome names place here start now → (asks : List Lookup) × (now ≡ start ++ asks) × Walks 0 root names asks (verdicts.Found here)
 arrived names place here start now all come =
     let none : drop place names ≡ [] = at_drop_all (λ l. l) names place all in
     let here_is = subst (λ l. Walks place here l [] (verdicts.Found here)) (sym none) (refl, refl) in
@@ -29,32 +30,32 @@ arrived names place here start now all come =
 pub first_left : (names : List (List ℕ)) (place : ℕ) (name : List ℕ) → place < length names → name ≡ get_or names place name → drop place names ≡ name ∷ drop (place + 1) names
 first_left names place name within is = at_drop_more (λ l. l) names place name within ∙ ap (λ n. n ∷ drop (place + 1) names) (sym is)
 
-module _ {names : List (List ℕ)} {place : ℕ} {here : Attr} {start now : List Ask} (come : HasCome names place here start now) (name : List ℕ) (rest : List (List ℕ)) (left : drop place names ≡ name ∷ rest) where
+module _ {names : List (List ℕ)} {place : ℕ} {here : Attr} {start now : List Lookup} (come : HasCome names place here start now) (name : List ℕ) (rest : List (List ℕ)) (left : drop place names ≡ name ∷ rest) where
   -- a walk that asks for the next name
-  asks_next : (answer : Asked) (more : List Ask) (verdict : Walked) → After answer place rest more verdict (λ attr. Walks (place + 1) attr rest more verdict) → Walks 0 root names (come.asks ++ record { dir = here.dir; name = name; answer = answer } ∷ more) verdict
+  asks_next : (answer : Asked) (more : List Lookup) (verdict : Walked) → After answer place rest more verdict (λ attr. Walks (place + 1) attr rest more verdict) → Walks 0 root names (come.asks ++ record { dir = here.dir; name = name; answer = answer } ∷ more) verdict
   asks_next answer more verdict after =
-      let ask : Ask = record { dir = here.dir; name = name; answer = answer } in
+      let ask : Lookup = record { dir = here.dir; name = name; answer = answer } in
       come.on (ask ∷ more) verdict (subst (λ l. Walks place here l (ask ∷ more) verdict) (sym left) (refl, refl, after))
 
   -- the next ask was refused
-  pub refused : {later : List Ask} → later ≡ now → (asks : List Ask) × (later ≡ start ++ asks) × BeginsAlong (Ok names) asks
+  pub refused : {later : List Lookup} → later ≡ now → (asks : List Lookup) × (later ≡ start ++ asks) × BeginsAlong (Ok names) asks
   refused same = (come.asks, same ∙ come.asked, record { more = record { dir = here.dir; name = name; answer = Unanswered } ∷ []; verdict = verdicts.Open place; is = asks_next Unanswered [] _ (refl, refl) })
 
-  module _ {later : List Ask} (answer : Asked) (asked : later ≡ now ++ record { dir = here.dir; name = name; answer = answer } ∷ []) where
+  module _ {later : List Lookup} (answer : Asked) (asked : later ≡ now ++ record { dir = here.dir; name = name; answer = answer } ∷ []) where
     all_asked : later ≡ start ++ (come.asks ++ record { dir = here.dir; name = name; answer = answer } ∷ [])
     all_asked = asked ∙ ap (λ l. l ++ record { dir = here.dir; name = name; answer = answer } ∷ []) come.asked ∙ append_assoc start come.asks _
 
     -- with this answer the verdict is known
-    ended : (verdict : Walked) → After answer place rest [] verdict (λ attr. Walks (place + 1) attr rest [] verdict) → (asks : List Ask) × (later ≡ start ++ asks) × Walks 0 root names asks verdict
+    ended : (verdict : Walked) → After answer place rest [] verdict (λ attr. Walks (place + 1) attr rest [] verdict) → (asks : List Lookup) × (later ≡ start ++ asks) × Walks 0 root names asks verdict
     ended verdict after = (come.asks ++ record { dir = here.dir; name = name; answer = answer } ∷ [], all_asked, asks_next answer [] verdict after)
 
-    pub ended_missing : answer ≡ Missing → (asks : List Ask) × (later ≡ start ++ asks) × Walks 0 root names asks (verdicts.Missing place)
+    pub ended_missing : answer ≡ Missing → (asks : List Lookup) × (later ≡ start ++ asks) × Walks 0 root names asks (verdicts.Missing place)
     ended_missing is = ended (verdicts.Missing place) (subst (λ (a : Asked). After a place rest [] (verdicts.Missing place) (λ attr. Walks (place + 1) attr rest [] (verdicts.Missing place))) (sym is) (refl, refl))
 
-    pub ended_open : answer ≡ Unanswered → (asks : List Ask) × (later ≡ start ++ asks) × Walks 0 root names asks (verdicts.Open place)
+    pub ended_open : answer ≡ Unanswered → (asks : List Lookup) × (later ≡ start ++ asks) × Walks 0 root names asks (verdicts.Open place)
     ended_open is = ended (verdicts.Open place) (subst (λ (a : Asked). After a place rest [] (verdicts.Open place) (λ attr. Walks (place + 1) attr rest [] (verdicts.Open place))) (sym is) (refl, refl))
 
-    pub ended_at : (attr : Attr) → answer ≡ Found attr → ends_at attr rest ≡ true → (asks : List Ask) × (later ≡ start ++ asks) × Walks 0 root names asks (verdicts.NotDir place)
+    pub ended_at : (attr : Attr) → answer ≡ Found attr → ends_at attr rest ≡ true → (asks : List Lookup) × (later ≡ start ++ asks) × Walks 0 root names asks (verdicts.NotDir place)
     ended_at attr is ends = ended (verdicts.NotDir place) (subst (λ (a : Asked). After a place rest [] (verdicts.NotDir place) (λ attr. Walks (place + 1) attr rest [] (verdicts.NotDir place))) (sym is)
         (subst (λ b. MatchBool b (Ends [] (verdicts.NotDir place) (verdicts.NotDir place)) (Walks (place + 1) attr rest [] (verdicts.NotDir place))) (sym ends) (refl, refl)))
 

@@ -1,5 +1,4 @@
 ghost use Rattle.std.specs.Prelude.{◌≡◌, ◌∷◌, ◌++◌, [], List, IfOk, OnErr};
-ghost use Rattle.path_walk.specs.Walks.{Ask};
 
 use mds_base::{Attr, Name};
 use std::alloc::{AllocError, Global};
@@ -15,10 +14,23 @@ pub enum Asked {
     Unanswered,
 }
 
+/// A name that was looked up in a directory, and how.
+#[derive(Debug, Drop)]
+pub struct Lookup {
+    /// The number of the directory.
+    pub dir: u64,
+    /// The name.
+    pub name: Name,
+    /// The answer.
+    pub answer: Asked,
+}
+
 /// Who looks names up, however it is done.
 pub trait Asker {
+    ghost use Rattle.path_walk.specs.declared.asker.Lookup.{Lookup};
+
     /// All that was asked and answered so far, in its order.
-    ghost asks: { Self → List Ask };
+    ghost asks: { Self → List Lookup };
 
     /// Looks a name up in the directory of this number. A refused ask, for want of memory, does not count.
     fn ask(&mut self, alloc: Global, dir: u64, name: &Name) -> Result<Asked, AllocError>

@@ -12,6 +12,6 @@ mod laws;
 mod names;
 mod walking;
 
-pub use asker::{Asked, Asker};
+pub use asker::{Asked, Asker, Lookup};
 pub use laws::laws_of_walks;
 pub use walking::walk;

@@ -1,6 +1,7 @@
 ghost use Rattle.std.specs.Prelude.{◌≡◌, ◌≤◌, ◌<◌, ◌^◌, ◌++◌, List, length, IfOk, OnErr};
 ghost use Rattle.mds_base.specs.declared.walked.Walked.{Walked};
-ghost use Rattle.path_walk.specs.Walks.{Ask, Walks, IsWalk, BeginsWalk, BeginsAlong, root};
+ghost use Rattle.path_walk.specs.declared.asker.Lookup.{Lookup};
+ghost use Rattle.path_walk.specs.Walks.{Walks, IsWalk, BeginsWalk, BeginsAlong, root};
 
 use crate::asker::{Asked, Asker};
 use crate::fault::PathFault;
@@ -15,9 +16,9 @@ const ROOT: u64 = 1;
 /// known. `BadPath` comes before anything is asked. Where it is refused for want of memory, what was answered so far
 /// stays asked.
 pub fn walk<A: Asker>(alloc: Global, asker: &mut A, path: &[u8]) -> Result<Walked, AllocError>
-    ensures ok { IfOk result (λ verdict. (asks : List Ask)
+    ensures ok { IfOk result (λ verdict. (asks : List Lookup)
         × (A.asks asker.new ≡ A.asks asker.old ++ asks) × IsWalk path.now asks verdict) }
-    ensures err { OnErr result ((asks : List Ask)
+    ensures err { OnErr result ((asks : List Lookup)
         × (A.asks asker.new ≡ A.asks asker.old ++ asks) × BeginsWalk path.now asks) }
 {
     match names_along(alloc, path) {
@@ -30,9 +31,9 @@ pub fn walk<A: Asker>(alloc: Global, asker: &mut A, path: &[u8]) -> Result<Walke
 /// Walks along names from the root on.
 fn walk_names<A: Asker>(alloc: Global, asker: &mut A, names: &[Name]) -> Result<Walked, AllocError>
     requires { length names.now ≤ 2 ^ 32 }
-    ensures ok { IfOk result (λ verdict. (asks : List Ask)
+    ensures ok { IfOk result (λ verdict. (asks : List Lookup)
         × (A.asks asker.new ≡ A.asks asker.old ++ asks) × Walks 0 root names.now asks verdict) }
-    ensures err { OnErr result ((asks : List Ask)
+    ensures err { OnErr result ((asks : List Lookup)
         × (A.asks asker.new ≡ A.asks asker.old ++ asks) × BeginsAlong (Ok names.now) asks) }
 {
     let mut here = Attr::new_directory(ROOT);
