@@ -51,12 +51,7 @@ fn request(alloc: Global, scan: &ScanState, words: Words<'_>) -> Answer {
     Ok(out)
 }
 
-fn take(
-    alloc: Global,
-    scan: &mut ScanState,
-    mut words: Words<'_>,
-    next: Option<Cursor>,
-) -> Answer {
+fn take(alloc: Global, scan: &mut ScanState, mut words: Words<'_>, next: Option<Cursor>) -> Answer {
     if scan.finished() {
         return Err(RowFault::Refused);
     }

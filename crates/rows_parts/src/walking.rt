@@ -68,6 +68,7 @@ fn verdict_text(alloc: Global, verdict: &Walked) -> Answer {
 }
 
 /// An asker that knows some names.
+#[derive(Drop)]
 struct Knowing {
     known: Vec<Lookup>,
     asks: Vec<Lookup>,
