@@ -21,6 +21,7 @@ mod verb;
 mod words;
 
 pub use byte_list::ByteList;
+pub use escape::name_of;
 pub use fault::LineFault;
 pub use line::Line;
 pub use reading::{laws_of_lines, read_line};
