@@ -1,0 +1,4 @@
+pub mod Rows
+pub mod Replies
+pub mod Planning
+pub mod Serving
