@@ -28,19 +28,19 @@ use Rattle.partition.specs.Replies.{said_of, rows_of, waits}
 
 -- nothing changes but leases that have ended
 abbrev pub unchanging : Step → ℕ → Plan
-unchanging step now = record { step = step; change = Nothing; now = now }
+unchanging step now = record { step = step; change = Nothing; moment = now }
 
 -- a lookup: an entry that is found is leased
 abbrev pub look_plan : Option Attr → List ℕ → ℕ → ℕ → Plan
 look_plan None name until now = unchanging (steps.Said (replies.Said Missing)) now
-look_plan (Some attr) name until now = record { step = steps.Said (replies.Found attr until); change = Lease name until; now = now }
+look_plan (Some attr) name until now = record { step = steps.Said (replies.Found attr until); change = Lease name until; moment = now }
 
 -- a change that is carried out: rows are edited and counted, and the session keeps the reply
 abbrev pub carry_plan : Ask → Final → List RowEdit → ℕ → ℕ → Plan
 carry_plan ask said edits count now = record {
   step = steps.Said (replies.Said said);
   change = Note edits (record { client = ask.client; seq = ask.seq; said = said }) count;
-  now = now;
+  moment = now;
 }
 
 -- whether an edit has to wait: it changes an entry on which a lease may be live

@@ -26,14 +26,15 @@ part_of count list floor = record { sessions = sessions.from_listed list; leases
 abbrev pub empty_part : ℕ → Partition
 empty_part floor = record { sessions = map.empty; leases = unleased floor; count = 0; split = Quiet }
 
-abbrev pub with_sessions : Partition → sessions.SessionMap → Partition
-with_sessions part kept = record part { sessions = kept }
+-- the partition once a session kept a change, with this many rows
+abbrev pub part_noted : Partition → Session → ℕ → Partition
+part_noted part session count = record part { sessions = sessions.noted part.sessions session.client session.seq session.said; count = count }
 
 -- the partition once a change was made in it
 abbrev pub changed : Partition → Change → Partition
 changed part Nothing = part
 changed part (Lease name until) = record part { leases = granted part.leases name until }
-changed part (Note edits session count) = record part { sessions = sessions.noted part.sessions session.client session.seq session.said; count = count }
+changed part (Note edits session count) = part_noted part session count
 
 -- the partition without the leases that have ended
 abbrev pub part_swept : Partition → ℕ → Partition
@@ -41,7 +42,7 @@ part_swept part now = record part { leases = swept part.leases now }
 
 -- the partition and the rows once a plan was made
 abbrev pub part_made : Partition → Plan → Partition
-part_made part plan = part_swept (changed part plan.change) plan.now
+part_made part plan = part_swept (changed part plan.change) plan.moment
 
 abbrev pub edits_in : Change → List RowEdit
 edits_in Nothing = []

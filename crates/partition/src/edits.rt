@@ -117,8 +117,7 @@ pub fn edits_of_load<R: Rows>(
         if is_there(rows, &mut added, &key)? {
             continue;
         }
-        let again = key_of(alloc, dir, part, &row.name)?;
-        added.put(again, row.attr)?;
+        added.put(copy_of(alloc, &key)?, row.attr)?;
         edits.push(RowEdit {
             key,
             edit: Edit::Put(row.attr),
@@ -128,11 +127,7 @@ pub fn edits_of_load<R: Rows>(
 }
 
 // Whether a row stands at the key, or is among those that a load adds.
-fn is_there<R: Rows>(
-    rows: &mut R,
-    added: &mut MapRows,
-    key: &RowKey,
-) -> Result<bool, RowsFault>
+fn is_there<R: Rows>(rows: &mut R, added: &mut MapRows, key: &RowKey) -> Result<bool, RowsFault>
     ensures ok { IfOk result (λ there. there ≡ (is_some (map.get added.old key.now) || is_some (map.get (R.contents rows.old) key.now))) }
     ensures rows { R.contents rows.new ≡ R.contents rows.old }
     ensures added { added.new ≡ added.old }
@@ -155,27 +150,37 @@ fn is_added(added: &mut MapRows, key: &RowKey) -> bool
 }
 
 /// Makes edits, in their order. Where one is refused those before it were made.
-pub fn write<R: Rows>(rows: &mut R, edits: EditList) -> Result<(), RowsFault>
-    ensures ok { OnOk result (R.contents rows.new ≡ written (R.contents rows.old) edits) }
-    ensures err { OnErr result (IsInPart (R.contents rows.old) edits (R.contents rows.new)) }
+pub fn write<R: Rows>(alloc: Global, rows: &mut R, edits: &[RowEdit]) -> Result<(), RowsFault>
+    ensures ok { OnOk result (R.contents rows.new ≡ written (R.contents rows.old) edits.now) }
+    ensures err { OnErr result (IsInPart (R.contents rows.old) edits.now (R.contents rows.new)) }
     ensures cause { HasRowsCause (R.faults rows.old) (R.faults rows.new) result }
 {
-    for edit in edits.edits {
-        let RowEdit { key, edit } = edit;
-        write_one(rows, key, edit)?;
+    for edit in edits {
+        write_one(alloc, rows, edit)?;
     }
     Ok(())
 }
 
-// Makes an edit at a key. Where it is refused the rows stay as they are.
-fn write_one<R: Rows>(rows: &mut R, key: RowKey, edit: Edit) -> Result<(), RowsFault>
-    ensures ok { OnOk result (R.contents rows.new ≡ edited_rows (R.contents rows.old) key edit) }
+// Makes an edit. Where it is refused the rows stay as they are.
+fn write_one<R: Rows>(alloc: Global, rows: &mut R, edit: &RowEdit) -> Result<(), RowsFault>
+    ensures ok { OnOk result (R.contents rows.new ≡ edited_rows (R.contents rows.old) edit.now.key edit.now.edit) }
     ensures err { OnErr result (R.contents rows.new ≡ R.contents rows.old) }
     ensures cause { HasRowsCause (R.faults rows.old) (R.faults rows.new) result }
 {
-    match edit {
+    match edit.edit {
         Edit::Keep => Ok(()),
-        Edit::Put(attr) => rows.put(key, attr),
-        Edit::Take => rows.take_away(&key),
+        Edit::Put(attr) => rows.put(copy_of(alloc, &edit.key)?, attr),
+        Edit::Take => rows.take_away(&edit.key),
     }
+}
+
+fn copy_of(alloc: Global, key: &RowKey) -> Result<RowKey, AllocError>
+    ensures { IfOk result (λ copy. copy ≡ key.now) }
+{
+    Ok(RowKey {
+        dir: key.dir,
+        part: key.part,
+        rev: key.rev,
+        name: key.name.copy(alloc)?,
+    })
 }

@@ -4,13 +4,13 @@ ghost use Rattle.mds_base.specs.RowsCause.{HasRowsCause};
 ghost use Rattle.mds_base.specs.Calls.{OnName, asked_of};
 ghost use Rattle.mds_base.specs.declared.limits.TheConstants.{MOMENTS, LEASE_MOST};
 ghost use Rattle.sessions.specs.declared.kept.Judged.{Judged};
-ghost use Rattle.sessions.specs.Kept.{judged, noted};
+ghost use Rattle.sessions.specs.Kept.{judged};
 ghost use Rattle.partition.specs.Rows.{load_edits, written};
 ghost use Rattle.partition.specs.Replies.{IsServed, rows_of};
 ghost use Rattle.partition.specs.Planning.{plan_part, look_plan, name_plan, load_plan, change_plan, new_plan, must_wait};
-ghost use Rattle.partition.specs.Serving.{empty_part, part_of, changed, edits_in, part_made, rows_made, IsNewer, IsInPart, IsServedPart, serve_part, with_sessions};
+ghost use Rattle.partition.specs.Serving.{empty_part, part_of, changed, edits_in, part_made, rows_made, IsNewer, IsInPart, IsServedPart, serve_part, part_noted};
 
-use crate::edits::{EditList, edits_of_load, key_of, list_of, write};
+use crate::edits::{RowEdit, edits_of_load, key_of, list_of, write};
 use crate::plan::{Change, Plan, Step};
 use crate::replies::{count_after, count_more, number_of, rows_of, said_to, waits};
 use leases::Leases;
@@ -101,7 +101,9 @@ impl Partition {
         ensures cause { HasRowsCause (R.faults rows.old) (R.faults rows.new) result }
     {
         let plan = self.plan(alloc, rows, dir, part, ask, now, setup, fresh)?;
-        self.make(alloc, rows, plan)
+        self.make(alloc, rows, &plan)?;
+        let Plan { step, .. } = plan;
+        Ok(step)
     }
 
     /// Works a call out, against the partition and the rows as they are. Nothing changes. A call on a name looks one
@@ -130,87 +132,92 @@ impl Partition {
                 if changes {
                     return self.plan_change(alloc, rows, dir, part, ask, now, fresh);
                 }
-                self.plan_look(alloc, rows, key_of(alloc, dir, part, name)?, now, setup.lease)
+                self.plan_look(
+                    alloc,
+                    rows,
+                    key_of(alloc, dir, part, name)?,
+                    now,
+                    setup.lease,
+                )
             }
             Asked::Directory { .. } => self.plan_change(alloc, rows, dir, part, ask, now, fresh),
             Asked::Partition { .. } => self.plan_change(alloc, rows, dir, part, ask, now, fresh),
         }
     }
 
-    /// Makes a plan that was worked out against this partition, as it still is, and answers its step. Where it is
-    /// refused the partition stays as it is; of the rows a front of the edits may have been made, so that those of a
-    /// call on a name, which edits one row at most, stay as they are too. It takes a write for each edit, and time by how many
-    /// leases have ended.
+    /// Makes a plan that was worked out against this partition, as it still is; its step is then what serving comes to.
+    /// Where it is refused the partition stays as it is. Of the rows a front of the edits may then have been made, but
+    /// not the last one: those of a call on a name, which edits one row at most, stay as they are too. It takes a write
+    /// for each edit, and time by how many leases have ended.
     pub fn make<R: Rows>(
         &mut self,
         alloc: Global,
         rows: &mut R,
-        plan: Plan,
-    ) -> Result<Step, RowsFault>
-        requires newer { IsNewer self.old plan.change }
-        ensures step { IfOk result (λ step. step ≡ plan.step) }
-        ensures part { OnOk result (self.new ≡ part_made self.old plan) }
-        ensures rows { OnOk result (R.contents rows.new ≡ rows_made (R.contents rows.old) plan) }
+        plan: &Plan,
+    ) -> Result<(), RowsFault>
+        requires newer { IsNewer self.old plan.now.change }
+        ensures part { OnOk result (self.new ≡ part_made self.old plan.now) }
+        ensures rows { OnOk result (R.contents rows.new ≡ rows_made (R.contents rows.old) plan.now) }
         ensures err { OnErr result (self.new ≡ self.old) }
-        ensures in_part { OnErr result (IsInPart (R.contents rows.old) (edits_in plan.change) (R.contents rows.new)) }
+        ensures in_part { OnErr result (IsInPart (R.contents rows.old) (edits_in plan.now.change) (R.contents rows.new)) }
         ensures cause { HasRowsCause (R.faults rows.old) (R.faults rows.new) result }
     {
-        let Plan { step, change, now } = plan;
-        self.change(alloc, rows, change)?;
-        self.leases.sweep(now);
-        Ok(step)
+        self.change(alloc, rows, &plan.change)?;
+        self.leases.sweep(plan.moment);
+        Ok(())
     }
 
     fn change<R: Rows>(
         &mut self,
         alloc: Global,
         rows: &mut R,
-        change: Change,
+        change: &Change,
     ) -> Result<(), RowsFault>
-        requires newer { IsNewer self.old change }
-        ensures part { OnOk result (self.new ≡ changed self.old change) }
-        ensures rows { OnOk result (R.contents rows.new ≡ written (R.contents rows.old) (edits_in change)) }
+        requires newer { IsNewer self.old change.now }
+        ensures part { OnOk result (self.new ≡ changed self.old change.now) }
+        ensures rows { OnOk result (R.contents rows.new ≡ written (R.contents rows.old) (edits_in change.now)) }
         ensures err { OnErr result (self.new ≡ self.old) }
-        ensures in_part { OnErr result (IsInPart (R.contents rows.old) (edits_in change) (R.contents rows.new)) }
+        ensures in_part { OnErr result (IsInPart (R.contents rows.old) (edits_in change.now) (R.contents rows.new)) }
         ensures cause { HasRowsCause (R.faults rows.old) (R.faults rows.new) result }
     {
         match change {
             Change::Nothing => Ok(()),
             Change::Lease { name, until } => {
-                self.leases.grant(alloc, &name, until)?;
+                self.leases.grant(alloc, name, *until)?;
                 Ok(())
             }
             Change::Note {
                 edits,
                 session,
                 count,
-            } => {
-                self.note(rows, edits, session)?;
-                self.count = count;
-                Ok(())
-            }
+            } => self.note(alloc, rows, edits.edits(), *session, *count),
         }
     }
 
     // Notes a change and writes its rows. The note comes first, since it can be taken back without memory.
     fn note<R: Rows>(
         &mut self,
+        alloc: Global,
         rows: &mut R,
-        edits: EditList,
+        edits: &[RowEdit],
         session: Session,
+        count: u64,
     ) -> Result<(), RowsFault>
         requires newer { judged self.old.sessions session.client session.seq ≡ Judged.New }
-        ensures part { OnOk result (self.new ≡ with_sessions self.old (noted self.old.sessions session.client session.seq session.said)) }
-        ensures rows { OnOk result (R.contents rows.new ≡ written (R.contents rows.old) edits) }
+        ensures part { OnOk result (self.new ≡ part_noted self.old session count) }
+        ensures rows { OnOk result (R.contents rows.new ≡ written (R.contents rows.old) edits.now) }
         ensures err { OnErr result (self.new ≡ self.old) }
-        ensures in_part { OnErr result (IsInPart (R.contents rows.old) edits (R.contents rows.new)) }
+        ensures in_part { OnErr result (IsInPart (R.contents rows.old) edits.now (R.contents rows.new)) }
         ensures cause { HasRowsCause (R.faults rows.old) (R.faults rows.new) result }
     {
         let Session { client, seq, said } = session;
         let kept = self.sessions.kept(client);
         self.sessions.note(client, seq, said)?;
-        match write(rows, edits) {
-            Ok(()) => Ok(()),
+        match write(alloc, rows, edits) {
+            Ok(()) => {
+                self.count = count;
+                Ok(())
+            }
             Err(fault) => {
                 self.sessions.restore(client, kept);
                 Err(fault)
@@ -234,10 +241,7 @@ impl Partition {
         ensures cause { HasRowsCause (R.faults rows.old) (R.faults rows.new) result }
     {
         match rows.get(&key)? {
-            None => Ok(Plan::unchanging(
-                Step::Said(Reply::Said(Final::Missing)),
-                now,
-            )),
+            None => Ok(Plan::unchanging(Step::Said(Reply::Said(Final::Missing)), now)),
             Some(attr) => Ok(Plan::leasing(key.name, attr, now + lease, now)),
         }
     }

@@ -21,7 +21,10 @@ pub enum Change {
     /// Nothing.
     Nothing,
     /// A lease on a name is granted until a moment.
-    Lease { name: Name, until: u64 },
+    Lease {
+        name: Name,
+        until: u64,
+    },
     /// Rows are edited, the session of a client keeps its change, and the partition then has this many rows.
     Note {
         edits: EditList,
@@ -38,7 +41,7 @@ pub struct Plan {
     /// What it changes.
     pub change: Change,
     /// The moment; leases that do not end after it are dropped.
-    pub now: u64,
+    pub moment: u64,
 }
 
 impl Plan {
@@ -49,7 +52,7 @@ impl Plan {
         Plan {
             step,
             change: Change::Nothing,
-            now,
+            moment: now,
         }
     }
 
@@ -60,7 +63,7 @@ impl Plan {
         Plan {
             step: Step::Said(Reply::Found { attr, until }),
             change: Change::Lease { name, until },
-            now,
+            moment: now,
         }
     }
 
@@ -79,7 +82,7 @@ impl Plan {
                 },
                 count,
             },
-            now,
+            moment: now,
         }
     }
 }
