@@ -21,6 +21,10 @@ abbrev pub is_end : Option ℕ → ℕ → Bool
 is_end None until = false
 is_end (Some end) until = end == until
 
+-- the map that entries by names make
+abbrev pub ends_of : List (List ℕ × ℕ) → Ends
+ends_of entries = map.from_entries entries
+
 -- the endings are those of the map: of each name that has an end this one, and no other
 abbrev pub AreEndings : List Ending → Ends → Type 0
 AreEndings endings ends = (e : Ending) → has_ending endings e ≡ is_end (map.get ends e.name) e.until

@@ -1,7 +1,8 @@
-ghost use Rattle.std.specs.Prelude.{◌≡◌, ◌<◌, ◌≤◌, ℕ, List, OnOk, OnErr, IfOk, IfSome, IfNone, Some, None};
+ghost use Rattle.std.specs.Prelude.{◌≡◌, ◌<◌, ◌≤◌, ℕ, List, OnOk, OnErr, IfOk, IfSome, IfNone, IsSome, Some, None};
 ghost use Rattle.std.specs.Bool.{OnTrue, OnFalse};
 ghost use Rattle.std.specs.FinMap as map;
 ghost use Rattle.leases.specs.Leases.{end_of, ends_above};
+ghost use Rattle.leases.specs.Order.{ends_of};
 
 use crate::ending::{Ending, pop_ended};
 use mds_base::Name;
@@ -21,15 +22,15 @@ impl Model for Ends {
     ghost use Rattle.std.specs.FinMap as map;
     ghost use Rattle.std.specs.Coded.{codes};
     ghost use Rattle.leases.specs.Leases.{Ends as Seen};
-    ghost use Rattle.leases.specs.Order.{AreEndings};
+    ghost use Rattle.leases.specs.Order.{ends_of, AreEndings};
 
     ghost Value = { Seen };
 
     ghost coded = { Prim.hlevel (codes, map.code) };
 
-    ghost view = { λ a. map.from_entries a.by_name.entries };
+    ghost view = { λ a. ends_of a.by_name.entries };
 
-    ghost invariant = { λ a. AreEndings a.order.keys (map.from_entries a.by_name.entries) };
+    ghost invariant = { λ a. AreEndings a.order.keys (ends_of a.by_name.entries) };
 }
 
 impl Ends {
@@ -56,10 +57,7 @@ impl Ends {
         ensures greatest { IfSome result (λ last. (name : List ℕ) → end_of self.now name ≤ last) }
         ensures none { IfNone result (self.now ≡ map.empty) }
     {
-        match self.order.last() {
-            None => None,
-            Some(last) => Some(last.until),
-        }
+        Some(self.order.last()?.until)
     }
 
     /// Gives an end to a name that has none. Where there is no memory for it, nothing changes.
@@ -103,9 +101,7 @@ impl Ends {
         };
         self.order.insert(ending)?;
         let _ = self.order.remove(&over);
-        if let Some(kept) = self.by_name.get_mut(name) {
-            *kept = until;
-        }
+        set_end(&mut self.by_name, name, until);
         Ok(())
     }
 
@@ -140,5 +136,15 @@ impl Ends {
             copy.begin(alloc, name, *until)?;
         }
         Ok(copy)
+    }
+}
+
+// Gives a name another end in place of the one that it has.
+fn set_end(by_name: &mut BTreeMap<Name, u64>, name: &Name, until: u64)
+    requires { IsSome (map.get (ends_of by_name.old.entries) name.now) }
+    ensures { ends_of by_name.new.entries ≡ map.insert (ends_of by_name.old.entries) name.now until }
+{
+    if let Some(end) = by_name.get_mut(name) {
+        *end = until;
     }
 }

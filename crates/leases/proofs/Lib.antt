@@ -1,0 +1,3 @@
+pub mod Above
+pub mod Endings
+pub mod Greatest
