@@ -30,7 +30,7 @@ same_ends = map.same_map nat_list_cmp_total exact_bytes
 -- ---- above a moment
 
 -- an end where it is above the moment
-abbrev end_above : ℕ → Option ℕ → Option ℕ
+abbrev pub end_above : ℕ → Option ℕ → Option ℕ
 end_above now o = cond (nat_lt now (unwrap_or o 0)) o None
 
 pub get_above : (m : Ends) (now : ℕ) (name : List ℕ) → map.get (ends_above m now) name ≡ end_above now (map.get m name)
