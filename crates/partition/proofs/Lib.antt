@@ -1,2 +1,6 @@
 pub mod Loading
 pub mod Undone
+pub mod Cases
+pub mod Rowing
+pub mod Mirrored
+pub mod Laws

@@ -2,3 +2,4 @@ pub mod Rows
 pub mod Replies
 pub mod Planning
 pub mod Serving
+pub mod Meaning

@@ -9,10 +9,12 @@
 #![tactic(auto)]
 
 mod edits;
+mod law;
 mod partition;
 mod plan;
 mod replies;
 
 pub use edits::{EditList, RowEdit, key_of};
+pub use law::laws_of_serving;
 pub use partition::Partition;
 pub use plan::{Change, Plan, Step};
