@@ -4,15 +4,18 @@ use Rattle.std.specs.Prelude.{map as list_map}
 use Rattle.std.specs.FinMap as map
 use Rattle.mds_base.specs.declared.attr.Attr.{Attr}
 use Rattle.mds_base.specs.declared.ask.Ask.{Ask}
+use Rattle.mds_base.specs.declared.call.Call.{Call}
+use Rattle.mds_base.specs.declared.call.Call.TheVariants.{Create, Mkdir, Remove, Lookup, Setattr, Scan, Grab, Load, Link, Seal, Unseal, Kill, Unlink}
 use Rattle.mds_base.specs.declared.reply.Final.{Final}
+use Rattle.mds_base.specs.declared.reply.Final.TheVariants.{Missing}
 use Rattle.mds_base.specs.declared.reply.Reply.{Reply}
 use Rattle.mds_base.specs.declared.reply.Reply.TheVariants as replies
 use Rattle.mds_base.specs.declared.row.Row.{Row}
 use Rattle.mds_base.specs.declared.row_key.RowKey.{RowKey}
 use Rattle.mds_base.specs.declared.session.Session.{Session}
 use Rattle.mds_base.specs.declared.setup.Setup.{Setup}
-use Rattle.mds_base.specs.Calls.{CallOn, OnName, OnDirectory, OnPartition, asked_of, dir_of}
-use Rattle.mds_base.specs.Entries.{Entries}
+use Rattle.mds_base.specs.Calls.{CallOn, OnName, OnDirectory, OnPartition, asked_of, dir_of, dir_on}
+use Rattle.mds_base.specs.Entries.{Place, Entries}
 use Rattle.mds_base.specs.PlainRules.{Allows, after}
 use Rattle.mds_base.specs.RowKeys.{RowMap}
 use Rattle.partition.specs.declared.edits.RowEdit.{RowEdit}
@@ -23,7 +26,7 @@ use Rattle.partition.specs.declared.plan.Plan.{Plan}
 use Rattle.partition.specs.declared.partition.Partition.{Partition}
 use Rattle.partition.specs.Rows.{row_key, written, load_edits}
 use Rattle.partition.specs.Replies.{IsServed, rows_of}
-use Rattle.partition.specs.Planning.{unchanging, look_plan, carry_plan, plan_part}
+use Rattle.partition.specs.Planning.{unchanging, look_plan, carry_plan, plan_on, plan_part}
 use Rattle.partition.specs.Serving.{part_made, rows_made, edits_in, IsInPart}
 use Rattle.partition.specs.Meaning.{names_on, names_of, IsApart, AreWithin, Mirrors, count_in}
 use Rattle.partition.proofs.Cases.{OfEach, plan_is, edit_at}
@@ -59,6 +62,9 @@ is_name (OnPartition d p) = false
 
 no_name : {P : Type 0} (d : ℕ) (name : List ℕ) (changes : Bool) (on : CallOn) → OnName d name changes ≡ on → is_name on ≡ false → P
 no_name d name changes on e other = let t : true ≡ is_name on = ap is_name e in cc
+
+looked_place : (g d : ℕ) (n m : List ℕ) → OnName g n false ≡ OnName d m false → ◌≡◌ {A = Place} (g, n) (d, m)
+looked_place g d n m e = cc
 
 few_law : (part : Partition) (rows : RowMap) (dir number d : ℕ) (name : List ℕ) (ask : Ask) (now : ℕ) (setup : Setup) (fresh : ℕ) → asked_of ask.call ≡ OnName d name true
     → length (edits_in (plan_part part rows dir number ask now setup fresh).change) ≤ 1
@@ -112,6 +118,43 @@ plain_law within entries part rows dir number ask now setup fresh edits session 
       all = λ d is. absurd (no_directory ask.call d served is);
       whole = λ d p is. carried_step within entries rows dir number ask _ _ _ now (load_plain within entries rows dir number d p ask.call served is here m (subst (λ on. AreWithin within (names_on on (rows_of ask.call))) is own));
     }) edits session count reply change step
+
+-- ---- a lookup
+
+found_allowed : (entries : Entries) (call : Call) (d : ℕ) (name : List ℕ) (until now : ℕ) (o : Option Attr) (reply : Reply) → asked_of call ≡ OnName d name false → map.get entries (d, name) ≡ o
+    → (look_plan o name until now).step ≡ Said reply → Allows entries call reply
+found_allowed entries (Lookup g n) d name until now None reply asked stands step =
+    let at : map.get entries (g, n) ≡ None = ap (λ (p : Place). map.get entries p) (looked_place g d n name asked) ∙ stands in
+    let same : reply ≡ replies.Said Missing = cc in
+    rw at same
+found_allowed entries (Lookup g n) d name until now (Some attr) reply asked stands step =
+    let at : map.get entries (g, n) ≡ Some attr = ap (λ (p : Place). map.get entries p) (looked_place g d n name asked) ∙ stands in
+    let same : reply ≡ replies.Found attr until = cc in
+    rw at (until, same)
+found_allowed entries (Create g n) d name until now o reply asked stands step = cc
+found_allowed entries (Mkdir g n) d name until now o reply asked stands step = cc
+found_allowed entries (Remove g n) d name until now o reply asked stands step = cc
+found_allowed entries (Setattr g n mode size stamp) d name until now o reply asked stands step = cc
+found_allowed entries (Scan g) d name until now o reply asked stands step = cc
+found_allowed entries (Grab g n count) d name until now o reply asked stands step = cc
+found_allowed entries (Load g rows) d name until now o reply asked stands step = cc
+found_allowed entries (Link g n id) d name until now o reply asked stands step = cc
+found_allowed entries (Seal g part epoch) d name until now o reply asked stands step = cc
+found_allowed entries (Unseal g part epoch) d name until now o reply asked stands step = cc
+found_allowed entries (Kill g epoch) d name until now o reply asked stands step = cc
+found_allowed entries (Unlink g n id) d name until now o reply asked stands step = cc
+
+looked_on : (part : Partition) (rows : RowMap) (dir number d : ℕ) (name : List ℕ) (ask : Ask) (now : ℕ) (setup : Setup) (fresh : ℕ) → asked_of ask.call ≡ OnName d name false
+    → plan_part part rows dir number ask now setup fresh ≡ look_plan (map.get rows (row_key dir number name)) name (now + setup.lease) now
+looked_on part rows dir number d name ask now setup fresh asked = ap (plan_on part rows dir number ask now setup fresh) asked
+
+pub looked_law : (within : List ℕ → Bool) (entries : Entries) (part : Partition) (rows : RowMap) (dir number d : ℕ) (name : List ℕ) (ask : Ask) (now : ℕ) (setup : Setup) (fresh : ℕ) (reply : Reply)
+    → Mirrors within entries dir rows number → asked_of ask.call ≡ OnName d name false → dir_of ask.call ≡ dir → within name ≡ true
+    → (plan_part part rows dir number ask now setup fresh).step ≡ Said reply → Allows entries ask.call reply
+looked_law within entries part rows dir number d name ask now setup fresh reply m asked here own step =
+    found_allowed entries ask.call d name (now + setup.lease) now (map.get rows (row_key dir number name)) reply asked
+    (ap (λ x. map.get entries (x, name)) (sym (ap dir_on asked) ∙ here) ∙ m.same name own)
+    (ap (λ (p : Plan). p.step) (sym (looked_on part rows dir number d name ask now setup fresh asked)) ∙ step)
 
 -- ---- the count
 

@@ -4,3 +4,4 @@ pub mod Cases
 pub mod Rowing
 pub mod Mirrored
 pub mod Laws
+pub mod Sweeping

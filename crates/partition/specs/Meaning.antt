@@ -8,8 +8,48 @@ use Rattle.mds_base.specs.declared.row_key.RowKey.{RowKey}
 use Rattle.mds_base.specs.Calls.{CallOn, OnName, OnDirectory, OnPartition, asked_of}
 use Rattle.mds_base.specs.Entries.{Entries}
 use Rattle.mds_base.specs.RowKeys.{RowMap}
+use Rattle.mds_base.specs.declared.ask.Ask.{Ask}
+use Rattle.mds_base.specs.declared.reply.Reply.{Reply}
+use Rattle.mds_base.specs.declared.session.Session.{Session}
+use Rattle.mds_base.specs.declared.setup.Setup.{Setup}
+use Rattle.partition.specs.declared.edits.RowEdit.{RowEdit}
+use Rattle.partition.specs.declared.plan.Change.TheVariants.{Note}
+use Rattle.partition.specs.declared.plan.Step.TheVariants.{Said}
+use Rattle.partition.specs.declared.plan.Plan.{Plan}
+use Rattle.partition.specs.declared.partition.Partition.{Partition}
 use Rattle.partition.specs.Rows.{row_key}
 use Rattle.partition.specs.Replies.{rows_of}
+use Rattle.partition.specs.Planning.{plan_part}
+use Rattle.partition.specs.Serving.{part_made, rows_made}
+
+-- a call that is served in partition `number` of a directory
+pub record CallIn : Type 0 where
+  pub part : Partition
+  pub rows : RowMap
+  pub dir : ℕ
+  pub number : ℕ
+  pub ask : Ask
+  pub now : ℕ
+  pub setup : Setup
+  pub fresh : ℕ
+
+-- its plan, and the partition and the rows that serving it leaves
+abbrev pub plan_in : CallIn → Plan
+plan_in at = plan_part at.part at.rows at.dir at.number at.ask at.now at.setup at.fresh
+
+abbrev pub part_left : CallIn → Partition
+part_left at = part_made at.part (plan_in at)
+
+abbrev pub rows_left : CallIn → RowMap
+rows_left at = rows_made at.rows (plan_in at)
+
+-- the plan is one of a change that is carried out, with this reply
+pub record IsCarried (plan : Plan) (reply : Reply) : Type 0 where
+  pub edits : List RowEdit
+  pub session : Session
+  pub count : ℕ
+  pub change' : plan.change ≡ Note edits session count
+  pub step' : plan.step ≡ Said reply
 
 -- the names that a call speaks of
 abbrev pub names_on : CallOn → List Row → List (List ℕ)

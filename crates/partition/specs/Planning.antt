@@ -33,7 +33,11 @@ unchanging step now = record { step = step; change = Nothing; moment = now }
 -- a lookup: an entry that is found is leased
 abbrev pub look_plan : Option Attr → List ℕ → ℕ → ℕ → Plan
 look_plan None name until now = unchanging (steps.Said (replies.Said Missing)) now
-look_plan (Some attr) name until now = record { step = steps.Said (replies.Found attr until); change = Lease name until; moment = now }
+look_plan (Some attr) name until now = record {
+  step = steps.Said (replies.Found attr until);
+  change = Lease name until;
+  moment = now;
+}
 
 -- a change that is carried out: rows are edited and counted, and the session keeps the reply
 abbrev pub carry_plan : Ask → Final → List RowEdit → ℕ → ℕ → Plan
@@ -54,10 +58,14 @@ edit_plan part key ask before said edit now =
     then unchanging (steps.Held (held_until part.leases key.name)) now
     else carry_plan ask said (edits_of key edit) (edited_count part.count edit before) now
 
+-- what a change on a name with this reply is planned as
+abbrev pub said_plan : Partition → RowKey → Ask → Option Attr → Final → ℕ → Plan
+said_plan part key ask before said now =
+    edit_plan part key ask before said (edit_of ask.call (replies.Said said) before) now
+
 -- a new change on a name, by the entry that stands there
 abbrev pub name_plan : Partition → RowKey → Ask → Option Attr → ℕ → ℕ → Plan
-name_plan part key ask before now fresh =
-    edit_plan part key ask before (said_of ask.call before fresh) (edit_of ask.call (replies.Said (said_of ask.call before fresh)) before) now
+name_plan part key ask before now fresh = said_plan part key ask before (said_of ask.call before fresh) now
 
 -- a new load, by the edits that add its rows
 abbrev pub load_plan : Partition → Ask → List RowEdit → ℕ → Plan
@@ -65,26 +73,35 @@ load_plan part ask edits now = carry_plan ask (Loaded (length edits)) edits (par
 
 -- a new change
 abbrev pub new_plan : Partition → RowMap → ℕ → ℕ → Ask → ℕ → ℕ → CallOn → Plan
-new_plan part rows dir number ask now fresh (OnName d name changes) = name_plan part (row_key dir number name) ask (map.get rows (row_key dir number name)) now fresh
-new_plan part rows dir number ask now fresh (OnDirectory d) = load_plan part ask (load_edits rows dir number (rows_of ask.call)) now
-new_plan part rows dir number ask now fresh (OnPartition d p) = load_plan part ask (load_edits rows dir number (rows_of ask.call)) now
+new_plan part rows dir number ask now fresh (OnName d name changes) =
+    name_plan part (row_key dir number name) ask (map.get rows (row_key dir number name)) now fresh
+new_plan part rows dir number ask now fresh (OnDirectory d) =
+    load_plan part ask (load_edits rows dir number (rows_of ask.call)) now
+new_plan part rows dir number ask now fresh (OnPartition d p) =
+    load_plan part ask (load_edits rows dir number (rows_of ask.call)) now
 
--- a change by what is kept of its client: a new one is carried out, the last one is answered again, and an old one is not
+-- a change by what is kept of its client: a new one is carried out, the last one is answered again, an old one is not
 abbrev pub judged_plan : Judged → Plan → ℕ → Plan
 judged_plan New plan now = plan
 judged_plan (Again said) plan now = unchanging (steps.Said (replies.Said said)) now
 judged_plan (Old kept) plan now = unchanging (steps.Old kept) now
 
 abbrev pub change_plan : Partition → RowMap → ℕ → ℕ → Ask → ℕ → ℕ → CallOn → Plan
-change_plan part rows dir number ask now fresh on = judged_plan (judged part.sessions ask.client ask.seq) (new_plan part rows dir number ask now fresh on) now
+change_plan part rows dir number ask now fresh on =
+    judged_plan (judged part.sessions ask.client ask.seq) (new_plan part rows dir number ask now fresh on) now
 
 abbrev pub plan_on : Partition → RowMap → ℕ → ℕ → Ask → ℕ → Setup → ℕ → CallOn → Plan
-plan_on part rows dir number ask now setup fresh (OnName d name true) = change_plan part rows dir number ask now fresh (OnName d name true)
-plan_on part rows dir number ask now setup fresh (OnName d name false) = look_plan (map.get rows (row_key dir number name)) name (now + setup.lease) now
-plan_on part rows dir number ask now setup fresh (OnDirectory d) = change_plan part rows dir number ask now fresh (OnDirectory d)
-plan_on part rows dir number ask now setup fresh (OnPartition d p) = change_plan part rows dir number ask now fresh (OnPartition d p)
+plan_on part rows dir number ask now setup fresh (OnName d name true) =
+    change_plan part rows dir number ask now fresh (OnName d name true)
+plan_on part rows dir number ask now setup fresh (OnName d name false) =
+    look_plan (map.get rows (row_key dir number name)) name (now + setup.lease) now
+plan_on part rows dir number ask now setup fresh (OnDirectory d) =
+    change_plan part rows dir number ask now fresh (OnDirectory d)
+plan_on part rows dir number ask now setup fresh (OnPartition d p) =
+    change_plan part rows dir number ask now fresh (OnPartition d p)
 
--- what is to be made of a call in partition `number` of a directory at a moment; `fresh` is the number that a mkdir or a
--- grab gives
+-- what is to be made of a call in partition `number` of a directory at a moment; `fresh` is the number that a mkdir or
+-- a grab gives
 abbrev pub plan_part : Partition → RowMap → ℕ → ℕ → Ask → ℕ → Setup → ℕ → Plan
-plan_part part rows dir number ask now setup fresh = plan_on part rows dir number ask now setup fresh (asked_of ask.call)
+plan_part part rows dir number ask now setup fresh =
+    plan_on part rows dir number ask now setup fresh (asked_of ask.call)

@@ -42,4 +42,5 @@ load_edits rows dir part [] = []
 load_edits rows dir part (row ∷ more) =
     if is_some (map.get rows (row_key dir part row.name))
     then load_edits rows dir part more
-    else (record { key = row_key dir part row.name; edit = Put row.attr } ∷ load_edits (map.insert rows (row_key dir part row.name) row.attr) dir part more)
+    else (record { key = row_key dir part row.name; edit = Put row.attr }
+    ∷ load_edits (map.insert rows (row_key dir part row.name) row.attr) dir part more)

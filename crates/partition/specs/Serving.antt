@@ -20,7 +20,12 @@ use Rattle.partition.specs.Planning.{plan_part}
 
 -- a partition with this many rows, these sessions and this floor
 abbrev pub part_of : ℕ → List Session → ℕ → Partition
-part_of count list floor = record { sessions = sessions.from_listed list; leases = unleased floor; count = count; split = Quiet }
+part_of count list floor = record {
+  sessions = sessions.from_listed list;
+  leases = unleased floor;
+  count = count;
+  split = Quiet;
+}
 
 -- a partition in which nothing was noted
 abbrev pub empty_part : ℕ → Partition
@@ -28,7 +33,10 @@ empty_part floor = record { sessions = map.empty; leases = unleased floor; count
 
 -- the partition once a session kept a change, with this many rows
 abbrev pub part_noted : Partition → Session → ℕ → Partition
-part_noted part session count = record part { sessions = sessions.noted part.sessions session.client session.seq session.said; count = count }
+part_noted part session count = record part {
+  sessions = sessions.noted part.sessions session.client session.seq session.said;
+  count = count;
+}
 
 -- the partition once a change was made in it
 abbrev pub changed : Partition → Change → Partition

@@ -128,7 +128,8 @@ pub fn edits_of_load<R: Rows>(
 
 // Whether a row stands at the key, or is among those that a load adds.
 fn is_there<R: Rows>(rows: &mut R, added: &mut MapRows, key: &RowKey) -> Result<bool, RowsFault>
-    ensures ok { IfOk result (λ there. there ≡ (is_some (map.get added.old key.now) || is_some (map.get (R.contents rows.old) key.now))) }
+    ensures ok { IfOk result (λ there.
+        there ≡ (is_some (map.get added.old key.now) || is_some (map.get (R.contents rows.old) key.now))) }
     ensures rows { R.contents rows.new ≡ R.contents rows.old }
     ensures added { added.new ≡ added.old }
     ensures cause { HasRowsCause (R.faults rows.old) (R.faults rows.new) result }

@@ -18,3 +18,4 @@ pub use edits::{EditList, RowEdit, key_of};
 pub use law::laws_of_serving;
 pub use partition::Partition;
 pub use plan::{Change, Plan, Step};
+pub use replies::is_served;

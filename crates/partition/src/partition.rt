@@ -7,8 +7,10 @@ ghost use Rattle.sessions.specs.declared.kept.Judged.{Judged};
 ghost use Rattle.sessions.specs.Kept.{judged};
 ghost use Rattle.partition.specs.Rows.{load_edits, written};
 ghost use Rattle.partition.specs.Replies.{IsServed, rows_of};
-ghost use Rattle.partition.specs.Planning.{plan_part, look_plan, name_plan, load_plan, change_plan, new_plan, must_wait};
-ghost use Rattle.partition.specs.Serving.{empty_part, part_of, changed, edits_in, part_made, rows_made, IsNewer, IsInPart, IsServedPart, serve_part, part_noted};
+ghost use Rattle.partition.specs.Planning.{plan_part, look_plan, name_plan, load_plan};
+ghost use Rattle.partition.specs.Planning.{change_plan, new_plan, must_wait};
+ghost use Rattle.partition.specs.Serving.{empty_part, part_of, changed, part_noted, part_made, rows_made};
+ghost use Rattle.partition.specs.Serving.{edits_in, serve_part, IsNewer, IsInPart, IsServedPart};
 
 use crate::edits::{RowEdit, edits_of_load, key_of, list_of, write};
 use crate::plan::{Change, Plan, Step};
@@ -95,9 +97,12 @@ impl Partition {
         requires served { IsServed ask.now.call }
         requires moment { now < MOMENTS }
         requires lease { setup.now.lease ≤ LEASE_MOST }
-        ensures ok { IfOk result (λ step. IsServedPart (serve_part self.old (R.contents rows.old) dir part ask.now now setup.now fresh) step self.new (R.contents rows.new)) }
+        ensures ok { IfOk result (λ step.
+            IsServedPart (serve_part self.old (R.contents rows.old) dir part ask.now now setup.now fresh) step self.new
+            (R.contents rows.new)) }
         ensures err { OnErr result (self.new ≡ self.old) }
-        ensures in_part { OnErr result (IsInPart (R.contents rows.old) (edits_in (plan_part self.old (R.contents rows.old) dir part ask.now now setup.now fresh).change) (R.contents rows.new)) }
+        ensures in_part { let plan = plan_part self.old (R.contents rows.old) dir part ask.now now setup.now fresh in
+            OnErr result (IsInPart (R.contents rows.old) (edits_in plan.change) (R.contents rows.new)) }
         ensures cause { HasRowsCause (R.faults rows.old) (R.faults rows.new) result }
     {
         let plan = self.plan(alloc, rows, dir, part, ask, now, setup, fresh)?;
@@ -122,7 +127,8 @@ impl Partition {
         requires served { IsServed ask.now.call }
         requires moment { now < MOMENTS }
         requires lease { setup.now.lease ≤ LEASE_MOST }
-        ensures ok { IfOk result (λ plan. plan ≡ plan_part self.now (R.contents rows.old) dir part ask.now now setup.now fresh) }
+        ensures ok { IfOk result (λ plan.
+            plan ≡ plan_part self.now (R.contents rows.old) dir part ask.now now setup.now fresh) }
         ensures newer { IfOk result (λ plan. IsNewer self.now plan.change) }
         ensures rows { R.contents rows.new ≡ R.contents rows.old }
         ensures cause { HasRowsCause (R.faults rows.old) (R.faults rows.new) result }
@@ -159,7 +165,8 @@ impl Partition {
         ensures part { OnOk result (self.new ≡ part_made self.old plan.now) }
         ensures rows { OnOk result (R.contents rows.new ≡ rows_made (R.contents rows.old) plan.now) }
         ensures err { OnErr result (self.new ≡ self.old) }
-        ensures in_part { OnErr result (IsInPart (R.contents rows.old) (edits_in plan.now.change) (R.contents rows.new)) }
+        ensures in_part { OnErr result
+            (IsInPart (R.contents rows.old) (edits_in plan.now.change) (R.contents rows.new)) }
         ensures cause { HasRowsCause (R.faults rows.old) (R.faults rows.new) result }
     {
         self.change(alloc, rows, &plan.change)?;
@@ -177,7 +184,8 @@ impl Partition {
         ensures part { OnOk result (self.new ≡ changed self.old change.now) }
         ensures rows { OnOk result (R.contents rows.new ≡ written (R.contents rows.old) (edits_in change.now)) }
         ensures err { OnErr result (self.new ≡ self.old) }
-        ensures in_part { OnErr result (IsInPart (R.contents rows.old) (edits_in change.now) (R.contents rows.new)) }
+        ensures in_part { OnErr result
+            (IsInPart (R.contents rows.old) (edits_in change.now) (R.contents rows.new)) }
         ensures cause { HasRowsCause (R.faults rows.old) (R.faults rows.new) result }
     {
         match change {
@@ -235,7 +243,8 @@ impl Partition {
     ) -> Result<Plan, RowsFault>
         requires moment { now < MOMENTS }
         requires lease { lease ≤ LEASE_MOST }
-        ensures ok { IfOk result (λ plan. plan ≡ look_plan (map.get (R.contents rows.old) key) key.name (now + lease) now) }
+        ensures ok { IfOk result (λ plan.
+            plan ≡ look_plan (map.get (R.contents rows.old) key) key.name (now + lease) now) }
         ensures newer { IfOk result (λ plan. IsNewer self.now plan.change) }
         ensures rows { R.contents rows.new ≡ R.contents rows.old }
         ensures cause { HasRowsCause (R.faults rows.old) (R.faults rows.new) result }
@@ -256,7 +265,8 @@ impl Partition {
         now: u64,
         fresh: u64,
     ) -> Result<Plan, RowsFault>
-        ensures ok { IfOk result (λ plan. plan ≡ change_plan self.now (R.contents rows.old) dir part ask.now now fresh (asked_of ask.now.call)) }
+        ensures ok { IfOk result (λ plan.
+            plan ≡ change_plan self.now (R.contents rows.old) dir part ask.now now fresh (asked_of ask.now.call)) }
         ensures newer { IfOk result (λ plan. IsNewer self.now plan.change) }
         ensures rows { R.contents rows.new ≡ R.contents rows.old }
         ensures cause { HasRowsCause (R.faults rows.old) (R.faults rows.new) result }
@@ -279,7 +289,8 @@ impl Partition {
         fresh: u64,
     ) -> Result<Plan, RowsFault>
         requires newer { judged self.now.sessions ask.now.client ask.now.seq ≡ Judged.New }
-        ensures ok { IfOk result (λ plan. plan ≡ new_plan self.now (R.contents rows.old) dir part ask.now now fresh (asked_of ask.now.call)) }
+        ensures ok { IfOk result (λ plan.
+            plan ≡ new_plan self.now (R.contents rows.old) dir part ask.now now fresh (asked_of ask.now.call)) }
         ensures newer { IfOk result (λ plan. IsNewer self.now plan.change) }
         ensures rows { R.contents rows.new ≡ R.contents rows.old }
         ensures cause { HasRowsCause (R.faults rows.old) (R.faults rows.new) result }
@@ -304,7 +315,8 @@ impl Partition {
         fresh: u64,
     ) -> Result<Plan, RowsFault>
         requires newer { judged self.now.sessions ask.now.client ask.now.seq ≡ Judged.New }
-        ensures ok { IfOk result (λ plan. plan ≡ name_plan self.now key ask.now (map.get (R.contents rows.old) key) now fresh) }
+        ensures ok { IfOk result (λ plan.
+            plan ≡ name_plan self.now key ask.now (map.get (R.contents rows.old) key) now fresh) }
         ensures newer { IfOk result (λ plan. IsNewer self.now plan.change) }
         ensures rows { R.contents rows.new ≡ R.contents rows.old }
         ensures cause { HasRowsCause (R.faults rows.old) (R.faults rows.new) result }
@@ -337,7 +349,8 @@ impl Partition {
         now: u64,
     ) -> Result<Plan, RowsFault>
         requires newer { judged self.now.sessions ask.now.client ask.now.seq ≡ Judged.New }
-        ensures ok { IfOk result (λ plan. plan ≡ load_plan self.now ask.now (load_edits (R.contents rows.old) dir part (rows_of ask.now.call)) now) }
+        ensures ok { IfOk result (λ plan.
+            plan ≡ load_plan self.now ask.now (load_edits (R.contents rows.old) dir part (rows_of ask.now.call)) now) }
         ensures newer { IfOk result (λ plan. IsNewer self.now plan.change) }
         ensures rows { R.contents rows.new ≡ R.contents rows.old }
         ensures cause { HasRowsCause (R.faults rows.old) (R.faults rows.new) result }

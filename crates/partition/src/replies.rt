@@ -1,10 +1,23 @@
 //! What the plain rules say to a call, by the entry that stands at its name.
-ghost use Rattle.std.specs.Prelude.{◌≡◌, ◌+◌, IfOk};
-ghost use Rattle.partition.specs.Replies.{made, removed, unlinked, reset, rows_of, said_of, waits};
+ghost use Rattle.std.specs.Prelude.{◌≡◌, ◌+◌, IfOk, MatchBool};
+ghost use Rattle.partition.specs.Replies.{IsServed, made, removed, unlinked, reset, rows_of, said_of, waits};
 ghost use Rattle.partition.specs.Rows.{edited_count};
 
 use mds_base::{Attr, Call, Edit, Final, Row};
 use std::alloc::AllocError;
+
+/// Whether a partition serves a call: each but a scan and the calls on seals.
+pub fn is_served(call: &Call) -> bool
+    ensures { MatchBool result (IsServed call.now) (IsServed call.now → ⊥) }
+{
+    match call {
+        Call::Scan { .. } => false,
+        Call::Seal { .. } => false,
+        Call::Unseal { .. } => false,
+        Call::Kill { .. } => false,
+        _ => true,
+    }
+}
 
 /// The final reply to a change on a name, with the number that a mkdir or a grab would give.
 pub fn said_to(call: &Call, before: Option<Attr>, fresh: u64) -> Final
