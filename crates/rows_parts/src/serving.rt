@@ -94,7 +94,13 @@ fn serve(
         attempt: 1,
         call,
     };
-    if now >= MOMENTS || lease > LEASE_MOST || !is_served(&ask.call) {
+    if now >= MOMENTS {
+        return Err(RowFault::Refused);
+    }
+    if lease > LEASE_MOST {
+        return Err(RowFault::Refused);
+    }
+    if !is_served(&ask.call) {
         return Err(RowFault::Refused);
     }
     let setup = Setup {
@@ -110,20 +116,27 @@ fn serve(
 /// A call as a script says it; `grab DIR NAME COUNT`, `link` and `unlink DIR NAME NUMBER`, and `load DIR NAME ..`,
 /// whose rows are new files.
 fn read_served(alloc: Global, mut words: Words<'_>) -> Result<Call, RowFault> {
-    let mut all = words;
+    let all = words;
     match words.word()? {
         "grab" => read_grab(alloc, words),
         "link" => read_link(alloc, words),
         "unlink" => read_unlink(alloc, words),
         "load" => read_load(alloc, words),
-        _ => read_call(alloc, &mut all),
+        _ => read_named(alloc, all),
     }
+}
+
+fn read_named(alloc: Global, mut words: Words<'_>) -> Result<Call, RowFault> {
+    let call = read_call(alloc, &mut words)?;
+    words.end()?;
+    Ok(call)
 }
 
 fn read_grab(alloc: Global, mut words: Words<'_>) -> Result<Call, RowFault> {
     let dir = words.number()?;
     let name = words.name(alloc)?;
     let count = words.small()?;
+    words.end()?;
     Ok(Call::Grab { dir, name, count })
 }
 
@@ -131,6 +144,7 @@ fn read_link(alloc: Global, mut words: Words<'_>) -> Result<Call, RowFault> {
     let dir = words.number()?;
     let name = words.name(alloc)?;
     let id = words.number()?;
+    words.end()?;
     Ok(Call::Link { dir, name, id })
 }
 
@@ -138,6 +152,7 @@ fn read_unlink(alloc: Global, mut words: Words<'_>) -> Result<Call, RowFault> {
     let dir = words.number()?;
     let name = words.name(alloc)?;
     let id = words.number()?;
+    words.end()?;
     Ok(Call::Unlink { dir, name, id })
 }
 
@@ -145,7 +160,8 @@ fn read_load(alloc: Global, mut words: Words<'_>) -> Result<Call, RowFault> {
     let dir = words.number()?;
     let mut rows = RowList::new(alloc);
     for word in words.rest().split(' ') {
-        let name = words.action(word).name(alloc)?;
+        let mut row = words.action(word);
+        let name = row.name(alloc)?;
         rows.push(Row {
             name,
             attr: Attr::new_file(),
