@@ -1,5 +1,6 @@
 //! Rows of `scan`.
-use mds_base::{Attr, Cursor, Row, RowList};
+use crate::lists::{read_rows, rows_text};
+use mds_base::Cursor;
 use row_words::{Answer, BETWEEN, RowFault, Words, push_answer, push_name, text, yes_or_no};
 use scan::ScanState;
 use std::alloc::Global;
@@ -61,20 +62,6 @@ fn take(alloc: Global, scan: &mut ScanState, mut words: Words<'_>, next: Option<
     text(alloc, "ok")
 }
 
-/// The rows of names with commas between them; `-` where there is none.
-fn read_rows(alloc: Global, words: &mut Words<'_>) -> Result<RowList, RowFault> {
-    let mut rows = RowList::new(alloc);
-    let names = words.word()?;
-    if names != "-" {
-        for name in names.split(',') {
-            let name = words.action(name).name(alloc)?;
-            let attr = Attr::new_file();
-            rows.push(Row { name, attr })?;
-        }
-    }
-    Ok(rows)
-}
-
 fn read_cursor(alloc: Global, words: &mut Words<'_>) -> Result<Cursor, RowFault> {
     let at = words.number()?;
     let mut look = *words;
@@ -87,19 +74,4 @@ fn read_cursor(alloc: Global, words: &mut Words<'_>) -> Result<Cursor, RowFault>
         at,
         after: Some(after),
     })
-}
-
-/// The names of rows; `-` where there is none.
-fn rows_text(alloc: Global, rows: &[Row]) -> Answer {
-    if rows.is_empty() {
-        return text(alloc, "-");
-    }
-    let mut out = String::new(alloc);
-    for row in rows {
-        if !out.as_str().is_empty() {
-            out.push(' ')?;
-        }
-        push_name(&mut out, &row.name)?;
-    }
-    Ok(out)
 }
