@@ -7,9 +7,10 @@ use crate::fault::LineFault;
 use mds_base::{Name, NameFault};
 use std::alloc::Global;
 
-/// The name that a word spells: `%` and two hexadecimal digits stand for one byte, every other byte for itself.
+/// The name that a word spells: `%` and two hexadecimal digits stand for one byte, every other byte for itself. It is
+/// refused as `NotALine` exactly where the word spells no name.
 #[tactic(auto, unfolding(crate::specs::Reading::name_of))]
-pub(crate) fn name_of(alloc: Global, word: &[u8]) -> Result<Name, LineFault>
+pub fn name_of(alloc: Global, word: &[u8]) -> Result<Name, LineFault>
     ensures { Gives (λ name. name) result (name_of word.now) }
 {
     if !word.contains(&b'%') {

@@ -24,6 +24,7 @@ mod words;
 
 pub use byte_list::ByteList;
 pub use call_text::CallText;
+pub use escape::name_of;
 pub use fault::LineFault;
 pub use line::Line;
 pub use reading::{laws_of_lines, read_line};

@@ -1,0 +1,4 @@
+pub mod Above
+pub mod Endings
+pub mod Greatest
+pub mod Held

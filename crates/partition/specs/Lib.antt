@@ -1,0 +1,5 @@
+pub mod Rows
+pub mod Replies
+pub mod Planning
+pub mod Serving
+pub mod Meaning

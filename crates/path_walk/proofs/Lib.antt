@@ -1,0 +1,4 @@
+mod Reading
+mod Pieces
+mod Steps
+mod OneWalk
