@@ -1,5 +1,5 @@
 ghost use Rattle.std.specs.Prelude.{◌≡◌};
-ghost use Rattle.lease_cache.specs.Keys as keys;
+ghost use Rattle.lease_cache.specs.Keys.{place_of, IsKey};
 
 use arrayvec::ArrayVec;
 use mds_base::Name;
@@ -12,7 +12,8 @@ pub type Key = ArrayVec<u8, KEY_MOST>;
 
 /// The key of a place.
 pub fn key_of(dir: u64, name: &Name) -> Key
-    ensures { result.items ≡ keys.key_of (dir, name.now) }
+    ensures place { place_of result.items ≡ (dir, name.now) }
+    ensures is_key { IsKey result.items }
 {
     let name = name.bytes();
     let mut key = Key::new();

@@ -1,8 +1,9 @@
 ghost use Rattle.std.specs.Prelude.{◌≡◌, ◌≤◌, [], OnOk, OnErr, IfOk, is_some};
 ghost use Rattle.lru.specs.LruCache.{lru_cache};
 ghost use Rattle.lease_cache.specs.Cache.{answered, used, kept, dropped};
+ghost use Rattle.lease_cache.specs.Keys.{place_of, IsKey};
 
-use crate::key::key_of;
+use crate::key::{Key, key_of};
 use crate::lease::Lease;
 use lru::LruCache;
 use mds_base::{Attr, Name};
@@ -52,12 +53,9 @@ impl LeaseCache {
         ensures used { self.new ≡ used self.old (dir, name.now) now }
     {
         let key = key_of(dir, name);
-        let lease = *self.leases.peek(key.as_slice())?;
-        if lease.until <= now {
-            return None;
-        }
+        let attr = self.said(&key, now)?;
         self.leases.promote(key.as_slice());
-        Some(lease.attr)
+        Some(attr)
     }
 
     /// Keeps a lease of a name of the directory in place of the one that is kept of it, as the last one used; where the
@@ -90,9 +88,17 @@ impl LeaseCache {
     pub fn live(&self, dir: u64, name: &Name, now: u64) -> bool
         ensures { result ≡ is_some (answered self.now (dir, name.now) now) }
     {
-        match self.leases.peek(key_of(dir, name).as_slice()) {
-            None => false,
-            Some(lease) => now < lease.until,
+        self.said(&key_of(dir, name), now).is_some()
+    }
+
+    // What is kept under a key with an end above the moment.
+    fn said(&self, key: &Key, now: u64) -> Option<Attr>
+        requires { IsKey key.now.items }
+        ensures { result ≡ answered self.now (place_of key.now.items) now }
+    {
+        match self.leases.peek(key.as_slice()) {
+            Some(lease) if now < lease.until => Some(lease.attr),
+            _ => None,
         }
     }
 }
