@@ -115,7 +115,7 @@ module _ {K X : Type 0} (bytes : K → List ℕ) where
       let test = is_place (place_of (bytes k)) in
       let rest = remove_by (bytes k) keyed c.entries are in
       (elim (lookup_entry (same_key bytes k) c.entries) as (λ o. by_places bytes (option_map_or (λ e. (e.0, v) ∷ remove_entry (same_key bytes k) c.entries) o ((k, v) ∷ take (c.cap - 1) c.entries))
-        ≡ option_map_or (λ e. (e.0, v) ∷ remove_entry test (by_places bytes c.entries)) (option_map by_place o) ((place_of (bytes k), v) ∷ take (c.cap - 1) (by_places bytes c.entries))) [
+      ≡ option_map_or (λ e. (e.0, v) ∷ remove_entry test (by_places bytes c.entries)) (option_map by_place o) ((place_of (bytes k), v) ∷ take (c.cap - 1) (by_places bytes c.entries))) [
         | None ↦ ap (λ fs. (place_of (bytes k), v) ∷ fs) (sym (take-map by_place (c.cap - 1) c.entries))
         | Some e ↦ ap (λ fs. (place_of (bytes e.0), v) ∷ fs) rest
       ])

@@ -8,8 +8,10 @@
 #![tactic(auto)]
 
 mod key;
+mod law;
 mod lease;
 mod lease_cache;
 
+pub use law::laws_of_lease_caches;
 pub use lease::Lease;
 pub use lease_cache::LeaseCache;

@@ -17,4 +17,4 @@ returns-clause-used c =
     let place = ap place_of c.as_slice.ensures.value ∙ c.key_of-key.ensures.place in
     let answer = sym (c.said.ensures ∙ ap (λ (p : Place). answered c.args.self.now p c.args.now) c.key_of-key.ensures.place) ∙ c.in_ok-attr.was in
     used_is c.self.inside.leases c.self.invariant c.args.self.now c.self.view_is c.as_slice.result.now keyed (c.args.dir, c.args.name.now) place
-      c.promote.new.self c.args.now c.in_ok-attr.attr c.promote.ensures.entries answer
+    c.promote.new.self c.args.now c.in_ok-attr.attr c.promote.ensures.entries answer
