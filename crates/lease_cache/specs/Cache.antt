@@ -25,7 +25,8 @@ answered cache place now = said_at now (lookup (is_place place) cache.entries)
 
 -- the cache once it was asked: a lease that was answered is the last one used
 abbrev pub used : Cache → Place → ℕ → Cache
-used cache place now = if is_some (answered cache place now) then lru_cache (promoted (is_place place) cache.entries) cache.cap else cache
+used cache place now =
+    if is_some (answered cache place now) then lru_cache (promoted (is_place place) cache.entries) cache.cap else cache
 
 -- the cache with this lease of the place, as the last one used; where it is full, the first one used goes
 abbrev pub kept : Cache → Place → Lease → Cache
