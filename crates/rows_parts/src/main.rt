@@ -1,6 +1,9 @@
 //! The program `rows_parts`: rows of the parts of a server and of a client. `crates/rows/README.md` says what a row is.
 #![tactic(auto)]
 
+mod caching;
+mod leasing;
+
 use row_words::{Answer, RowFault, Table, Words, print};
 use std::alloc::Global;
 use std::io;
@@ -15,6 +18,8 @@ struct Calls;
 impl Table for Calls {
     fn answer(alloc: Global, mut words: Words<'_>) -> Answer {
         match words.word()? {
+            "leases" => leasing::answer(alloc, words),
+            "lease_cache" => caching::answer(alloc, words),
             _ => Err(RowFault::NotARow),
         }
     }
