@@ -20,7 +20,8 @@ pub struct Ending {
 pub fn pop_ended(order: &mut BTreeSet<Ending>, now: u64) -> Option<Ending>
     ensures ended { IfSome result (λ e. e.until ≤ now) }
     ensures member { IfSome result (λ e. has_ending order.old.keys e ≡ true) }
-    ensures taken { IfSome result (λ e. (q : Ending) → has_ending order.new.keys q ≡ cond (is_at (ending_cmp e) q) false (has_ending order.old.keys q)) }
+    ensures taken { IfSome result (λ e. (q : Ending)
+        → has_ending order.new.keys q ≡ cond (is_at (ending_cmp e) q) false (has_ending order.old.keys q)) }
     ensures above { IfNone result ((q : Ending) → has_ending order.old.keys q ≡ true → now < q.until) }
     ensures unchanged { IfNone result (order.new.keys ≡ order.old.keys) }
 {

@@ -1,6 +1,8 @@
 //! The program `rows_parts`: rows of the parts of a server and of a client. `crates/rows/README.md` says what a row is.
 #![tactic(auto)]
 
+mod caching;
+mod leasing;
 mod lists;
 mod scanning;
 mod serving;
@@ -21,6 +23,8 @@ struct Calls;
 impl Table for Calls {
     fn answer(alloc: Global, mut words: Words<'_>) -> Answer {
         match words.word()? {
+            "leases" => leasing::answer(alloc, words),
+            "lease_cache" => caching::answer(alloc, words),
             "partition" => serving::answer(alloc, words),
             "split" => splitting::answer(alloc, words),
             "path_walk" => walking::answer(alloc, words),
