@@ -1,5 +1,5 @@
 -- The lines of effects: what a simulation shows of them, and that they tell of no stop.
-use Rattle.std.proofs.Common.{◌≡◌, ◌∙◌, sym, ap, refl, ℕ, ◌+◌, ◌/◌, ◌%◌, ◌==◌, List, [], ◌∷◌, ◌++◌, get_or, length, Bool, true, false, not, if◌then◌else◌, nat_le, nat_lt, map, filter, codes, decimal, arith}
+use Rattle.std.proofs.Common.{◌≡◌, ◌∙◌, sym, ap, refl, ℕ, ◌+◌, ◌/◌, ◌%◌, ◌==◌, List, [], ◌∷◌, ◌++◌, get_or, Bool, true, false, not, if◌then◌else◌, nat_le, nat_lt, map, filter, codes, decimal, arith}
 use Rattle.std.specs.Prelude.{◌&&◌}
 use Rattle.std.specs.Fmt.{digit_glyph}
 use Rattle.std.specs.List.{flat_map, list_all}

@@ -1,5 +1,5 @@
 -- A client's message is followed, round by round.
-use Rattle.std.proofs.Common.{◌≡◌, ◌∙◌, sym, ap, subst, refl, ℕ, ◌+◌, ◌≤◌, ◌^◌, Bool, true, false, List, [], ◌∷◌, ◌++◌, length, Some, None, inl, inr, arith}
+use Rattle.std.proofs.Common.{◌≡◌, ◌∙◌, sym, ap, subst, refl, ℕ, ◌+◌, ◌≤◌, Bool, true, false, List, [], ◌∷◌, ◌++◌, length, Some, None, inl, inr, arith}
 use Rattle.std.specs.List.{slice_get}
 use Rattle.mds_base.specs.declared.limits.TheConstants.{EVENTS}
 use Rattle.mds_base.specs.declared.setup.Which.TheVariants as limits

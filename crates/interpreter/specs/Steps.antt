@@ -1,5 +1,5 @@
 -- What happens from one moment of an interpreter to another: events, what its simulation shows then, and their text.
-use Rattle.std.specs.Prelude.{◌≡◌, ◌⊎◌, ℕ, ◌+◌, ◌^◌, ◌≤◌, ◌&&◌, Bool, true, false, not, is_some, List, [], ◌∷◌, ◌++◌, length, Option, Some, None}
+use Rattle.std.specs.Prelude.{◌≡◌, ◌⊎◌, ℕ, ◌+◌, ◌≤◌, ◌&&◌, Bool, true, false, not, is_some, List, [], ◌∷◌, ◌++◌, length, Option, Some, None}
 use Rattle.std.specs.List.{slice_get}
 use Rattle.mds_base.specs.declared.limits.TheConstants.{EVENTS, MOMENTS}
 use Rattle.mds_base.specs.declared.setup.Which.{Which}
