@@ -10,6 +10,7 @@ use std::alloc::Global;
 
 /// The directory and the partition of the rows.
 const DIR: u64 = 1;
+
 const PART: u32 = 0;
 
 /// The number that a mkdir and a grab give.
