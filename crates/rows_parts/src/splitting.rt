@@ -1,4 +1,6 @@
 //! Rows of `split`: the half of a partition that moves, and the pieces in which it is sent.
+ghost use Rattle.std.specs.Prelude.{◌<◌, ◌^◌};
+
 use crate::lists::{read_rows, rows_text};
 use mds_base::{Attr, Cursor, MapRows, RADIX, Row, RowList, Rows, SplitState};
 use row_words::{Answer, BETWEEN, RowFault, Words, push_answer, text, yes_or_no};
