@@ -1,9 +1,9 @@
 //! Rows of `bitmap`. A bitmap is written as the list of its partitions.
-use row_words::{Answer, RowFault, Words, list_text, text, yes_or_no};
 use crate::plain_bitmap::{PARTS, PlainBitmap};
 use bitmap::{Bitmap, WORDS};
 use chains::reverse;
 use mds_base::RADIX;
+use row_words::{Answer, RowFault, Words, list_text, text, yes_or_no};
 use std::alloc::{AllocError, Global};
 use std::fmt::Write;
 

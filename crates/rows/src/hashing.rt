@@ -1,10 +1,10 @@
 //! Rows of `name_hash`.
 ghost use Rattle.std.specs.Prelude.{◌≡◌};
 
-use row_words::{Answer, RowFault, Words, list_text};
 use chains::{chain_next, reverse};
 use mds_base::RADIX;
 use name_hash::hash;
+use row_words::{Answer, RowFault, Words, list_text};
 use std::alloc::{AllocError, Global};
 
 /// `hash NAME`, `reverse HASH`, `chain HASH`.

@@ -1,6 +1,6 @@
 //! Rows of `sessions`.
-use row_words::{Answer, BETWEEN, RowFault, Words, push_answer, push_final, read_final, text};
 use mds_base::Session;
+use row_words::{Answer, BETWEEN, RowFault, Words, push_answer, push_final, read_final, text};
 use sessions::{Judged, Sessions};
 use std::alloc::Global;
 use std::fmt::Write;

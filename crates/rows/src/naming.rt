@@ -1,6 +1,8 @@
 //! Rows of `mds_base`: which bytes are names, and the rows of a partition.
-use row_words::{Answer, BETWEEN, RowFault, Words, attr_text, push_answer, push_name, read_file, text, yes_or_no};
 use mds_base::{Cursor, MapRows, Name, NameFault, RowKey, RowList, Rows};
+use row_words::{
+    Answer, BETWEEN, RowFault, Words, attr_text, push_answer, push_name, read_file, text, yes_or_no,
+};
 use std::alloc::Global;
 
 /// `name BYTES`, and `rows ACTION; ..`.

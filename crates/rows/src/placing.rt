@@ -1,6 +1,6 @@
 //! Rows of `placement`.
-use row_words::{Answer, RowFault, Words};
 use placement::{server_of, zeroth};
+use row_words::{Answer, RowFault, Words};
 use std::alloc::Global;
 
 /// `server_of DIR PART SERVERS`, `zeroth DIR SERVERS`.

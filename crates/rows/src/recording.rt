@@ -1,7 +1,7 @@
 //! Rows of `records`.
 use crate::values::record_text;
-use row_words::{Answer, RowFault, Words, hex_text, text};
 use records::{RecordFault, read, write};
+use row_words::{Answer, RowFault, Words, hex_text, text};
 use std::alloc::Global;
 
 /// `read BYTES`, and `write BYTES`, which writes the record that was read.

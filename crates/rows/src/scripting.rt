@@ -1,7 +1,7 @@
 //! Rows of `script`, for three servers and two clients.
 use crate::values::line_text;
-use row_words::{Answer, RowFault, Words, text};
 use mds_base::Setup;
+use row_words::{Answer, RowFault, Words, text};
 use script::{LineFault, read_line};
 use std::alloc::Global;
 

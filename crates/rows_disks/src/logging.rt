@@ -2,9 +2,9 @@
 ghost use Rattle.std.specs.Prelude.{MatchOption};
 ghost use Rattle.rows_disks.specs.Benches.{IsRunning, IsBench};
 
-use row_words::{Answer, BETWEEN, RUNS, RowFault, Words, hex_text, push_answer, push_run, text};
 use gate_log::{GateLog, Piece};
 use mds_out::{Disk, Fuse};
+use row_words::{Answer, BETWEEN, RUNS, RowFault, Words, hex_text, push_answer, push_run, text};
 use std::alloc::Global;
 
 /// `log OUTCOME FAILS ACTION; ..` on a new disk, and `each OUTCOME FAILS ACTION; ..`, which is run for each K from 0 on

@@ -1,6 +1,6 @@
 //! Rows of `mds_out`: sources and sinks in memory.
-use row_words::{Answer, BETWEEN, RowFault, Words, hex_text, push_answer, text};
 use mds_out::{BytesIn, BytesOut, Sink, Source, write_whole};
+use row_words::{Answer, BETWEEN, RowFault, Words, hex_text, push_answer, text};
 use std::alloc::Global;
 
 /// How many bytes a read asks for.
