@@ -1,2 +1,4 @@
 pub mod Readers
 pub mod Rows
+pub mod BlockLoops
+pub mod BlocksRead

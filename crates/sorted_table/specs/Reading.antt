@@ -75,6 +75,10 @@ from_at (suc count) key bytes = row_at bytes >>= λ row. if is_lt (row_key_cmp r
 abbrev pub are_zeros : List ℕ → Bool
 are_zeros = list_all (λ byte. byte == 0)
 
+-- rows, with nothing but zeros behind them
+abbrev pub before_zeros : Option (List TableRow × List ℕ) → Option (List TableRow)
+before_zeros read = read >>= λ rows. if are_zeros rows.1 then Some rows.0 else None
+
 -- the rows of a block, behind their count
 abbrev pub block_at : List ℕ → Option (List TableRow)
-block_at bytes = u16_at bytes >>= λ count. rows_at count.0 count.1 >>= λ rows. if are_zeros rows.1 then Some rows.0 else None
+block_at bytes = u16_at bytes >>= λ count. before_zeros (rows_at count.0 count.1)

@@ -2,10 +2,20 @@
 #![tactic(auto)]
 
 mod block;
+mod checked;
+mod fault;
 mod reading;
+mod spelling;
 mod table_row;
 
+pub use fault::{TableDamage, TableFault};
 pub use table_row::{Held, TableRow};
 
 /// The bytes of a block.
 pub const BLOCK_BYTES: usize = 4096;
+
+/// The bytes of a table's sum, an MD5, with which its file ends.
+pub const SUM_BYTES: usize = 16;
+
+/// The bytes behind a table's blocks: the counts of blocks and rows, and the sum.
+pub const FIXED_BYTES: usize = 28;

@@ -29,6 +29,19 @@ pub(crate) struct KeyLine<'a> {
     name: &'a [u8],
 }
 
+impl Line<'_> {
+    /// A copy of the row, whose name is one.
+    pub(crate) fn copy(&self, alloc: Global) -> Result<TableRow, AllocError>
+        requires { IsTrue (is_name self.now.key.name.now) }
+        ensures { IfOk result (λ row. row ≡ row_in self.now) }
+    {
+        Ok(TableRow {
+            key: self.key.copy(alloc)?,
+            attr: self.attr,
+        })
+    }
+}
+
 impl KeyLine<'_> {
     /// How the key stands to another.
     pub(crate) fn compare(&self, key: &RowKey) -> Ordering

@@ -1,0 +1,95 @@
+//! Blocks that were read one after another, and may be those of a table.
+ghost use Rattle.std.specs.Prelude.{◌≡◌, ◌+◌, ◌<◌, ◌^◌, ◌++◌, ◌∷◌, [], List, IfOk, IsTrue, length, ⊤};
+ghost use Rattle.std.specs.Option.{option_map};
+ghost use Rattle.mds_base.specs.RowKeys.{row_key_cmp};
+ghost use Rattle.sorted_table.specs.Blocks.{block_size, is_above, rise_behind};
+ghost use Rattle.sorted_table.specs.Checks.{IsChecked, follows};
+ghost use Rattle.sorted_table.specs.declared.table_row.TableRow.{TableRow};
+
+use crate::spelling::row_size;
+use crate::{BLOCK_BYTES, TableRow};
+use mds_base::RowKey;
+use std::alloc::{AllocError, Global};
+
+/// What is kept of blocks: the first key of each, how many rows they have, the last row's key, and how many bytes the
+/// last one has taken.
+#[derive(Drop)]
+pub(crate) struct Checked {
+    pub(crate) firsts: Vec<RowKey>,
+    pub(crate) rows: u64,
+    last: Option<RowKey>,
+    size: usize,
+}
+
+impl Checked {
+    /// Of no block. The first block may begin with any row.
+    pub(crate) fn new(alloc: Global) -> Checked
+        ensures { IsChecked result [] }
+    {
+        Checked {
+            firsts: Vec::new(alloc),
+            rows: 0,
+            last: None,
+            size: BLOCK_BYTES,
+        }
+    }
+
+    /// Goes on by a block with these rows, which take so many bytes; false where no such block may follow.
+    pub(crate) fn push(
+        &mut self,
+        alloc: Global,
+        mut rows: Vec<TableRow>,
+        size: usize,
+    ) -> Result<bool, AllocError>
+        requires size { size ≡ block_size rows.items }
+        requires small { self.old.size + 307 < 2 ^ 64 }
+        requires few { self.old.rows + length rows.items < 2 ^ 64 }
+        ensures good { IfOk result (λ good. good ≡ follows self.old.size self.old.last rows.items) }
+        ensures checked { IfOk result (λ good. IsTrue good → (blocks : List (List TableRow)) → IsChecked self.old blocks → IsChecked self.new (blocks ++ rows.items ∷ [])) }
+    {
+        let Some(first) = rows.first() else {
+            return Ok(false);
+        };
+        if self.size + row_size(&first.key, first.attr.as_ref()) <= BLOCK_BYTES
+            || !rise_behind(self.last.as_ref(), &rows)
+        {
+            return Ok(false);
+        }
+        self.firsts.push(copy_key(alloc, &first.key)?)?;
+        self.rows += rows.len() as u64;
+        self.last = rows.pop().map(|row| row.key);
+        self.size = size;
+        Ok(true)
+    }
+}
+
+/// A copy of a key; a name of at most 22 bytes takes no memory.
+pub(crate) fn copy_key(alloc: Global, key: &RowKey) -> Result<RowKey, AllocError>
+    ensures { IfOk result (λ copy. copy ≡ key.now) }
+{
+    Ok(RowKey {
+        dir: key.dir,
+        part: key.part,
+        rev: key.rev,
+        name: key.name.copy(alloc)?,
+    })
+}
+
+// Whether each row's key is above that of the row before it, where these follow one of this key.
+fn rise_behind(before: Option<&RowKey>, rows: &[TableRow]) -> bool
+    ensures { result ≡ rise_behind (option_map (λ key. key.now) before) rows.now }
+{
+    match rows {
+        [] => true,
+        [row, rest @ ..] => is_above(before, &row.key) && rise_behind(Some(&row.key), rest),
+    }
+}
+
+fn is_above(before: Option<&RowKey>, key: &RowKey) -> bool
+    ensures { result ≡ is_above (option_map (λ key. key.now) before) key.now }
+{
+    match before {
+        None => true,
+        Some(before) => before.cmp(key).is_lt(),
+    }
+}

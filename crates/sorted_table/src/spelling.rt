@@ -1,0 +1,107 @@
+//! Spelling a row into the bytes of its block.
+ghost use Rattle.std.specs.Prelude.{◌≡◌, ◌+◌, ◌<◌, ◌≤◌, ◌++◌, ◌∷◌, Option, OnOk, length};
+ghost use Rattle.std.specs.Int.{w16, w32, w64, to_be_bytes};
+ghost use Rattle.std.specs.Option.{option_map};
+ghost use Rattle.sorted_table.specs.TableRows.{IsMarked, plain_spelling, stamp_spelling, marked_spelling, key_spelling, row_spelling};
+
+use byteorder::{BigEndian, ByteOrder};
+use mds_base::{Attr, RowKey};
+use std::alloc::AllocError;
+
+fn put_u16(out: &mut Vec<u8>, number: u16) -> Result<(), AllocError>
+    ensures { OnOk result (out.new.items ≡ out.old.items ++ to_be_bytes w16 number) }
+{
+    let mut bytes = [0; 2];
+    BigEndian::write_u16(&mut bytes, number);
+    out.extend_from_slice(&bytes)
+}
+
+pub(crate) fn put_u32(out: &mut Vec<u8>, number: u32) -> Result<(), AllocError>
+    ensures { OnOk result (out.new.items ≡ out.old.items ++ to_be_bytes w32 number) }
+{
+    let mut bytes = [0; 4];
+    BigEndian::write_u32(&mut bytes, number);
+    out.extend_from_slice(&bytes)
+}
+
+pub(crate) fn put_u64(out: &mut Vec<u8>, number: u64) -> Result<(), AllocError>
+    ensures { OnOk result (out.new.items ≡ out.old.items ++ to_be_bytes w64 number) }
+{
+    let mut bytes = [0; 8];
+    BigEndian::write_u64(&mut bytes, number);
+    out.extend_from_slice(&bytes)
+}
+
+fn put_key(out: &mut Vec<u8>, key: &RowKey) -> Result<(), AllocError>
+    ensures { OnOk result (out.new.items ≡ out.old.items ++ key_spelling key.now) }
+{
+    put_u64(out, key.dir)?;
+    put_u32(out, key.part)?;
+    put_u64(out, key.rev)?;
+    let name = key.name.bytes();
+    out.push(name.len() as u8)?;
+    out.extend_from_slice(name)
+}
+
+fn put_plain(out: &mut Vec<u8>, attr: &Attr) -> Result<(), AllocError>
+    requires { attr.now.mode ≤ 4095 }
+    ensures { OnOk result (out.new.items ≡ out.old.items ++ plain_spelling attr.now) }
+{
+    put_u64(out, attr.dir)?;
+    put_u16(out, attr.mode as u16)?;
+    put_u64(out, attr.size)
+}
+
+fn put_stamp(out: &mut Vec<u8>, attr: &Attr) -> Result<(), AllocError>
+    ensures { OnOk result (out.new.items ≡ out.old.items ++ stamp_spelling attr.now) }
+{
+    put_u32(out, attr.owner)?;
+    put_u64(out, attr.mtime)
+}
+
+fn put_marked(out: &mut Vec<u8>, attr: Option<&Attr>) -> Result<(), AllocError>
+    requires { IsMarked (option_map (λ a. a.now) attr) }
+    ensures { OnOk result (out.new.items ≡ out.old.items ++ marked_spelling (option_map (λ a. a.now) attr)) }
+{
+    match attr {
+        None => {
+            out.push(0)?;
+            Ok(())
+        }
+        Some(attr) if attr.is_stamped() => {
+            out.push(2)?;
+            put_plain(out, attr)?;
+            put_stamp(out, attr)
+        }
+        Some(attr) => {
+            out.push(1)?;
+            put_plain(out, attr)
+        }
+    }
+}
+
+/// Appends the spelling of a row with this key.
+pub(crate) fn put_row(
+    out: &mut Vec<u8>,
+    key: &RowKey,
+    attr: Option<&Attr>,
+) -> Result<(), AllocError>
+    requires { IsMarked (option_map (λ a. a.now) attr) }
+    ensures { OnOk result (out.new.items ≡ out.old.items ++ (key_spelling key.now ++ marked_spelling (option_map (λ a. a.now) attr))) }
+{
+    put_key(out, key)?;
+    put_marked(out, attr)
+}
+
+/// How many bytes the spelling of a row with this key takes.
+pub(crate) fn row_size(key: &RowKey, attr: Option<&Attr>) -> usize
+    ensures size { result ≡ length (key_spelling key.now ++ marked_spelling (option_map (λ a. a.now) attr)) }
+    ensures small { result ≤ 307 }
+{
+    let marked = match attr {
+        None => 1,
+        Some(attr) if attr.is_stamped() => 31,
+        Some(_) => 19,
+    };
+    21 + key.name.bytes().len() + marked
+}
