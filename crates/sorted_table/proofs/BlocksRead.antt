@@ -1,5 +1,5 @@
 -- Blocks are read exactly.
-use Rattle.std.proofs.Common.{◌≡◌, ◌∙◌, sym, ap, subst, refl, ℕ, zero, suc, ◌+◌, ◌-◌, ◌<◌, ◌≤◌, ◌^◌, ◌*◌, Bool, true, false, cond, nat_eq, List, [], ◌∷◌, ◌++◌, append_assoc, length, take, drop, replicate, Option, None, Some, arith, length-append}
+use Rattle.std.proofs.Common.{◌≡◌, ◌∙◌, sym, ap, subst, refl, ℕ, zero, suc, ◌+◌, ◌-◌, ◌<◌, ◌≤◌, ◌^◌, ◌*◌, Bool, true, false, cond, ◌&&◌, nat_eq, List, [], ◌∷◌, ◌++◌, append_assoc, length, take, drop, replicate, Option, None, Some, arith, length-append}
 use Rattle.std.specs.Int.{w16, to_be_bytes}
 use Rattle.std.specs.List.{AllByRecursion, list_all}
 use Rattle.std.proofs.lemmas.Bool.Decides.{nat_tests}
@@ -32,7 +32,10 @@ zeros_pass (suc n) = zeros_pass n
 pub zeros_are : (bytes : List ℕ) → are_zeros bytes ≡ true → bytes ≡ replicate (length bytes) 0
 zeros_are [] e = refl
 zeros_are (zero ∷ bytes) e = ap (λ (l : List ℕ). 0 ∷ l) (zeros_are bytes e)
-zeros_are (suc b ∷ bytes) e = absurd (let f : ◌≡◌ {A = Bool} false true = e in cc)
+zeros_are (suc b ∷ bytes) e =
+    let off : nat_eq (suc b) 0 ≡ false = grind (arith, nat_tests) in
+    let never : ◌≡◌ {A = Bool} false true = sym (ap (λ x. x && are_zeros bytes) off) ∙ e in
+    absurd cc
 
 -- ---- blocks
 

@@ -2,3 +2,5 @@ pub mod Readers
 pub mod Rows
 pub mod BlockLoops
 pub mod BlocksRead
+pub mod Rising
+pub mod Filling

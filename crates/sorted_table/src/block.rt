@@ -1,5 +1,5 @@
 //! The rows of a block.
-ghost use Rattle.std.specs.Prelude.{◌≡◌, IfOk, MatchOption, List, Some, None, ⊤};
+ghost use Rattle.std.specs.Prelude.{◌≡◌, IfOk, MatchOption, List, Some, None, ⊤, ◌≤◌, length};
 ghost use Rattle.std.specs.Option.{option_map};
 ghost use Rattle.sorted_table.specs.Blocks.{block_size};
 ghost use Rattle.sorted_table.specs.Lines.{row_in};
@@ -20,6 +20,7 @@ pub(crate) fn block_rows(
 ) -> Result<Option<(Vec<TableRow>, usize)>, AllocError>
     ensures rows { IfOk result (λ read. option_map (λ x. x.0.items) read ≡ block_at block.now) }
     ensures size { IfOk result (λ read. MatchOption read ⊤ (λ x. x.1 ≡ block_size x.0.items)) }
+    ensures within { IfOk result (λ read. MatchOption read ⊤ (λ x. x.1 ≤ length block.now)) }
 {
     let Some((count, rest)) = u16_at(block) else {
         return Ok(None);

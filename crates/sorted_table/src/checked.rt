@@ -1,5 +1,5 @@
 //! Blocks that were read one after another, and may be those of a table.
-ghost use Rattle.std.specs.Prelude.{◌≡◌, ◌+◌, ◌<◌, ◌^◌, ◌++◌, ◌∷◌, [], List, IfOk, IsTrue, length, ⊤};
+ghost use Rattle.std.specs.Prelude.{◌≡◌, ◌+◌, ◌<◌, ◌^◌, ◌++◌, ◌∷◌, [], List, IfOk, IsTrue, length, nat_lt, ◌≤◌};
 ghost use Rattle.std.specs.Option.{option_map};
 ghost use Rattle.mds_base.specs.RowKeys.{row_key_cmp};
 ghost use Rattle.sorted_table.specs.Blocks.{block_size, is_above, rise_behind};
@@ -18,7 +18,7 @@ pub(crate) struct Checked {
     pub(crate) firsts: Vec<RowKey>,
     pub(crate) rows: u64,
     last: Option<RowKey>,
-    size: usize,
+    size: u16,
 }
 
 impl Checked {
@@ -30,7 +30,7 @@ impl Checked {
             firsts: Vec::new(alloc),
             rows: 0,
             last: None,
-            size: BLOCK_BYTES,
+            size: BLOCK_BYTES as u16,
         }
     }
 
@@ -42,23 +42,23 @@ impl Checked {
         size: usize,
     ) -> Result<bool, AllocError>
         requires size { size ≡ block_size rows.items }
-        requires small { self.old.size + 307 < 2 ^ 64 }
-        requires few { self.old.rows + length rows.items < 2 ^ 64 }
-        ensures good { IfOk result (λ good. good ≡ follows self.old.size self.old.last rows.items) }
+        requires small { size ≤ BLOCK_BYTES }
+        ensures good { IfOk result (λ good. good ≡ follows self.old.size self.old.last self.old.rows rows.items) }
         ensures checked { IfOk result (λ good. IsTrue good → (blocks : List (List TableRow)) → IsChecked self.old blocks → IsChecked self.new (blocks ++ rows.items ∷ [])) }
     {
         let Some(first) = rows.first() else {
             return Ok(false);
         };
-        if self.size + row_size(&first.key, first.attr.as_ref()) <= BLOCK_BYTES
-            || !rise_behind(self.last.as_ref(), &rows)
-        {
+        let is_full = BLOCK_BYTES < self.size as usize + row_size(&first.key, first.attr.as_ref());
+        if !is_full || !rise_behind(self.last.as_ref(), &rows) || !fits(self.rows, rows.len()) {
             return Ok(false);
         }
         self.firsts.push(copy_key(alloc, &first.key)?)?;
         self.rows += rows.len() as u64;
-        self.last = rows.pop().map(|row| row.key);
-        self.size = size;
+        if let Some(last) = rows.pop() {
+            self.last = Some(last.key);
+        }
+        self.size = size as u16;
         Ok(true)
     }
 }
@@ -75,9 +75,16 @@ pub(crate) fn copy_key(alloc: Global, key: &RowKey) -> Result<RowKey, AllocError
     })
 }
 
+// Whether the number of all rows is a u64.
+fn fits(before: u64, rows: usize) -> bool
+    ensures { result ≡ nat_lt (before + rows) (2 ^ 64) }
+{
+    rows as u64 <= u64::MAX - before
+}
+
 // Whether each row's key is above that of the row before it, where these follow one of this key.
 fn rise_behind(before: Option<&RowKey>, rows: &[TableRow]) -> bool
-    ensures { result ≡ rise_behind (option_map (λ key. key.now) before) rows.now }
+    ensures { result ≡ rise_behind (option_map (λ key. key.now) before.entry) rows.now }
 {
     match rows {
         [] => true,
@@ -86,7 +93,7 @@ fn rise_behind(before: Option<&RowKey>, rows: &[TableRow]) -> bool
 }
 
 fn is_above(before: Option<&RowKey>, key: &RowKey) -> bool
-    ensures { result ≡ is_above (option_map (λ key. key.now) before) key.now }
+    ensures { result ≡ is_above (option_map (λ key. key.now) before.entry) key.now }
 {
     match before {
         None => true,

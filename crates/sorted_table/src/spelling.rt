@@ -5,7 +5,7 @@ ghost use Rattle.std.specs.Option.{option_map};
 ghost use Rattle.sorted_table.specs.TableRows.{IsMarked, plain_spelling, stamp_spelling, marked_spelling, key_spelling, row_spelling};
 
 use byteorder::{BigEndian, ByteOrder};
-use mds_base::{Attr, RowKey};
+use mds_base::{Attr, Name, RowKey};
 use std::alloc::AllocError;
 
 fn put_u16(out: &mut Vec<u8>, number: u16) -> Result<(), AllocError>
@@ -32,15 +32,27 @@ pub(crate) fn put_u64(out: &mut Vec<u8>, number: u64) -> Result<(), AllocError>
     out.extend_from_slice(&bytes)
 }
 
+fn put_numbers(out: &mut Vec<u8>, dir: u64, part: u32, rev: u64) -> Result<(), AllocError>
+    ensures { OnOk result (out.new.items ≡ out.old.items ++ (to_be_bytes w64 dir ++ (to_be_bytes w32 part ++ to_be_bytes w64 rev))) }
+{
+    put_u64(out, dir)?;
+    put_u32(out, part)?;
+    put_u64(out, rev)
+}
+
+fn put_name(out: &mut Vec<u8>, name: &Name) -> Result<(), AllocError>
+    ensures { OnOk result (out.new.items ≡ out.old.items ++ length name.now ∷ name.now) }
+{
+    let bytes = name.bytes();
+    out.push(bytes.len() as u8)?;
+    out.extend_from_slice(bytes)
+}
+
 fn put_key(out: &mut Vec<u8>, key: &RowKey) -> Result<(), AllocError>
     ensures { OnOk result (out.new.items ≡ out.old.items ++ key_spelling key.now) }
 {
-    put_u64(out, key.dir)?;
-    put_u32(out, key.part)?;
-    put_u64(out, key.rev)?;
-    let name = key.name.bytes();
-    out.push(name.len() as u8)?;
-    out.extend_from_slice(name)
+    put_numbers(out, key.dir, key.part, key.rev)?;
+    put_name(out, &key.name)
 }
 
 fn put_plain(out: &mut Vec<u8>, attr: &Attr) -> Result<(), AllocError>
@@ -61,7 +73,7 @@ fn put_stamp(out: &mut Vec<u8>, attr: &Attr) -> Result<(), AllocError>
 
 fn put_marked(out: &mut Vec<u8>, attr: Option<&Attr>) -> Result<(), AllocError>
     requires { IsMarked (option_map (λ a. a.now) attr) }
-    ensures { OnOk result (out.new.items ≡ out.old.items ++ marked_spelling (option_map (λ a. a.now) attr)) }
+    ensures { OnOk result (out.new.items ≡ out.old.items ++ marked_spelling (option_map (λ a. a.now) attr.entry)) }
 {
     match attr {
         None => {
@@ -87,7 +99,7 @@ pub(crate) fn put_row(
     attr: Option<&Attr>,
 ) -> Result<(), AllocError>
     requires { IsMarked (option_map (λ a. a.now) attr) }
-    ensures { OnOk result (out.new.items ≡ out.old.items ++ (key_spelling key.now ++ marked_spelling (option_map (λ a. a.now) attr))) }
+    ensures { OnOk result (out.new.items ≡ out.old.items ++ (key_spelling key.now ++ marked_spelling (option_map (λ a. a.now) attr.entry))) }
 {
     put_key(out, key)?;
     put_marked(out, attr)
@@ -95,7 +107,7 @@ pub(crate) fn put_row(
 
 /// How many bytes the spelling of a row with this key takes.
 pub(crate) fn row_size(key: &RowKey, attr: Option<&Attr>) -> usize
-    ensures size { result ≡ length (key_spelling key.now ++ marked_spelling (option_map (λ a. a.now) attr)) }
+    ensures size { result ≡ length (key_spelling key.now ++ marked_spelling (option_map (λ a. a.now) attr.entry)) }
     ensures small { result ≤ 307 }
 {
     let marked = match attr {

@@ -6,7 +6,9 @@ use Rattle.sorted_table.proofs.Rows.{row_reads}
 use Rattle.sorted_table.proofs.block.rows_at.Goals as goal
 
 pub loop-place-init : goal.loop-place-init
-loop-place-init c = read_none c.args.count c.args.bytes.now (λ i. omega (arith, c.type_inv.bytes i))
+loop-place-init c =
+    let P : List TableRow → Type 0 = λ rows. HasRead c.args.count c.args.bytes.now 0 rows c.args.bytes.now in
+    subst P (sym c.new-rows.ensures.items) (read_none c.args.count c.args.bytes.now (λ i. omega (arith, c.type_inv.bytes i)))
 
 pub copy-requires : goal.copy-requires
 copy-requires c = (row_reads.found c.loop-place.rest.now (row_in c.in-Some.line) c.in-Some.after.now c.loop-place.invariant.fits c.in-Some.ensures).0.key.name
