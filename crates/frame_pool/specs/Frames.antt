@@ -1,5 +1,6 @@
 -- Frames: pieces of memory of one size, each with a number of its own in its pool, which are lent and given back.
 use Rattle.std.specs.Prelude.{◌≡◌, ℕ, List, Option, Some, None, is_some, count_by, slice_get, slice_set, replicate, length}
+use Rattle.std.specs.List.{refill}
 use Rattle.std.specs.Global.{Vec}
 use Rattle.frame_pool.specs.declared.TheConstants.{FRAME_BYTES}
 
@@ -12,6 +13,10 @@ pub record FrameOut : Type 0 where
 -- below the length is free or out, and never both.
 abbrev pub Frames : Type 0
 Frames = List (Option (List ℕ))
+
+-- the frame once these bytes were left in it
+abbrev pub filled : FrameOut → List ℕ → FrameOut
+filled frame left = record frame { bytes = refill FRAME_BYTES frame.bytes left }
 
 -- a frame of this pool is free and holds these bytes
 abbrev pub IsFree : Frames → FrameOut → Type 0

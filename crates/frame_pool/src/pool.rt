@@ -1,4 +1,4 @@
-ghost use Rattle.std.specs.Prelude.{◌≡◌, ◌^◌, ◌<◌, ◌↔◌, All, length, IsTrue, IsNone, IfSome, IfNone, IfOk};
+ghost use Rattle.std.specs.Prelude.{◌≡◌, ◌↔◌, All, position, is_some, IsTrue, IsNone, IfSome, IfNone, IfOk};
 ghost use Rattle.frame_pool.specs.Frames.{IsFree, Lacks, fresh, taken, given};
 
 use crate::{FRAME_BYTES, Frame};
@@ -43,7 +43,7 @@ impl Pool {
         ensures none { IfNone result (All IsNone self.old) }
         ensures unchanged { IfNone result (self.new ≡ self.old) }
     {
-        let number = self.places.iter().position(|place| place.is_some())?;
+        let number = first_free(&self.places)?;
         let block = self.places[number].take()?;
         Some(Frame {
             number: number as u32,
@@ -69,4 +69,11 @@ impl Pool {
         let Frame { number, block } = frame;
         self.places[number as usize] = Some(block);
     }
+}
+
+// The least number of a free frame.
+fn first_free(places: &[Option<Vec<u8>>]) -> Option<usize>
+    ensures { result ≡ position is_some places.now }
+{
+    places.iter().position(|place| place.is_some())
 }
