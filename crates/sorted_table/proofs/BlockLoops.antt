@@ -51,9 +51,10 @@ read_all count bytes place rows rest has end =
 -- no row so far is one that is not below the key, and these bytes are left
 pub record Seeks (count : ℕ) (key : RowKey) (bytes : List ℕ) (place : ℕ) (rest : List ℕ) : Type 0 where
   pub gives : from_at (count - place) key rest ≡ from_at count key bytes
+  pub fits : IsBytes rest
 
-pub seek_none : (count : ℕ) (key : RowKey) (bytes : List ℕ) → Seeks count key bytes 0 bytes
-seek_none count key bytes = record { gives = ap (λ n. from_at n key bytes) (omega arith) }
+pub seek_none : (count : ℕ) (key : RowKey) (bytes : List ℕ) → IsBytes bytes → Seeks count key bytes 0 bytes
+seek_none count key bytes fits = record { fits = fits; gives = ap (λ n. from_at n key bytes) (omega arith) }
 
 pub seek_fails : (count : ℕ) (key : RowKey) (bytes : List ℕ) (place : ℕ) (rest : List ℕ) → Seeks count key bytes place rest → place < count → row_at rest ≡ None → from_at count key bytes ≡ None
 seek_fails count key bytes place rest has lt none =
@@ -64,7 +65,7 @@ seek_step : (count : ℕ) (key : RowKey) (place : ℕ) (rest : List ℕ) (row : 
 seek_step count key place rest row after b lt read is = rw (left count place lt, read, is) refl
 
 pub seek_more : (count : ℕ) (key : RowKey) (bytes : List ℕ) (place : ℕ) (rest : List ℕ) (row : TableRow) (after : List ℕ) → Seeks count key bytes place rest → place < count → row_at rest ≡ Some (row, after) → is_lt (row_key_cmp row.key key) ≡ true → Seeks count key bytes (place + 1) after
-seek_more count key bytes place rest row after has lt read is = record { gives = sym (seek_step count key place rest row after true lt read is) ∙ has.gives }
+seek_more count key bytes place rest row after has lt read is = record { fits = bytes_behind rest (row_spelling row) after (row_reads.found rest row after has.fits read).1 has.fits; gives = sym (seek_step count key place rest row after true lt read is) ∙ has.gives }
 
 pub seek_ends : (count : ℕ) (key : RowKey) (bytes : List ℕ) (place : ℕ) (rest : List ℕ) (row : TableRow) (after : List ℕ) → Seeks count key bytes place rest → place < count → row_at rest ≡ Some (row, after) → is_lt (row_key_cmp row.key key) ≡ false → from_at count key bytes ≡ Some (Some row)
 seek_ends count key bytes place rest row after has lt read is = sym has.gives ∙ seek_step count key place rest row after false lt read is

@@ -1,6 +1,6 @@
 -- Blocks one after another: how they are filled, spelled and kept, and that they are read exactly.
 use Rattle.std.proofs.Common.{◌≡◌, ◌∙◌, sym, ap, subst, refl, ℕ, zero, suc, ◌+◌, ◌-◌, ◌<◌, ◌≤◌, ◌^◌, ◌*◌, Bool, true, false, nat_lt, ◌&&◌, List, [], ◌∷◌, ◌++◌, append_assoc, length, take, drop, Option, None, Some, arith, length-append, add-one}
-use Rattle.std.specs.List.{AllByRecursion}
+use Rattle.std.specs.List.{AllByRecursion, slice_get}
 use Rattle.std.proofs.lemmas.Bool.{lt-ltb, ltb-true}
 use Rattle.std.proofs.lemmas.Bool.Decides.{nat_tests}
 use Rattle.std.proofs.lemmas.List.{append-nil, take_at, drop_at}
@@ -14,7 +14,7 @@ use Rattle.sorted_table.specs.Blocks.{block_size, block_spelling, blocks_spellin
 use Rattle.sorted_table.specs.Checks.{IsChecked, IsSpelled, IsRead, follows}
 use Rattle.sorted_table.specs.TableFiles.{AreBlocks}
 use Rattle.sorted_table.proofs.BlocksRead.{fewer_rows, block_again, block_length}
-use Rattle.sorted_table.proofs.Rising.{all_left, all_right, all_joined, and_both, rises_on, rise_later, rises_left}
+use Rattle.sorted_table.proofs.Rising.{all_left, all_right, all_joined, and_both, rises_on, rise_later, last_key-append}
 
 -- ---- one block more
 
@@ -181,6 +181,32 @@ module _ (checked : Checked) (bytes chunk : List ℕ) (long : length chunk ≡ 4
         kept = kept;
       }
 
+  pub good_block : (after : Checked) (block : List TableRow) → AllByRecursion IsRow block → block_size block ≤ 4096 → chunk ≡ block_spelling block → follows checked.size checked.last checked.rows block ≡ true
+      → IsChecked after (is.blocks ++ block ∷ []) → IsSpelled after (bytes ++ chunk)
+  good_block after [] all fits chunk_is on kept = absurd cc
+  good_block after (row ∷ rows) all fits chunk_is on kept = good_next after row rows all fits chunk_is on kept
+
 -- what is no table's stays so
 pub still_none : (bytes chunk : List ℕ) → IsRead None bytes → IsRead None (bytes ++ chunk)
 still_none bytes chunk none more ys are e = none (chunk ++ more) ys are (sym (append_assoc bytes chunk more) ∙ e)
+
+-- ---- what is kept
+
+last_is : (before : Option RowKey) (rows : List TableRow) (last : TableRow) → slice_get rows (length rows - 1) ≡ Some last → last_key before rows ≡ Some last.key
+last_is before [] last e = absurd cc
+last_is before (row ∷ []) last e = let same : row ≡ last = cc in ap (λ (r : TableRow). Some r.key) same
+last_is before (row ∷ next ∷ rows) last e =
+    let place : length (row ∷ next ∷ rows) - 1 ≡ suc (length (next ∷ rows) - 1) = omega arith in
+    last_is (Some row.key) (next ∷ rows) last (sym (ap (slice_get (row ∷ next ∷ rows)) place) ∙ e)
+
+pub checked_push : (old new : Checked) (rows : List TableRow) (first last : TableRow) (blocks : List (List TableRow)) → slice_get rows 0 ≡ Some first → slice_get rows (length rows - 1) ≡ Some last → new.firsts.items ≡ old.firsts.items ++ first.key ∷ []
+    → new.rows ≡ old.rows + length rows → new.last ≡ Some last.key → new.size ≡ block_size rows → IsChecked old blocks → IsChecked new (blocks ++ rows ∷ [])
+checked_push old new [] first last blocks first_at last_at firsts number last_is size kept = absurd cc
+checked_push old new (row ∷ rows) first last blocks first_at last_at firsts number new_last size kept =
+    let same : row ≡ first = cc in
+    record {
+      firsts = firsts ∙ ap (λ l. l ++ first.key ∷ []) kept.firsts ∙ ap (λ (r : TableRow). first_keys blocks ++ r.key ∷ []) (sym same) ∙ sym (first_keys-push blocks row rows);
+      rows = omega (arith, number, kept.rows, ap length (rows_in-push blocks (row ∷ rows)), length-append (rows_in blocks) (row ∷ rows));
+      last = new_last ∙ sym (last_is (last_key None (rows_in blocks)) (row ∷ rows) last last_at) ∙ sym (last_key-append None (rows_in blocks) (row ∷ rows)) ∙ ap (last_key None) (sym (rows_in-push blocks (row ∷ rows)));
+      size = size ∙ sym (last_size-push 4096 blocks (row ∷ rows));
+    }

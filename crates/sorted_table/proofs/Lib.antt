@@ -4,3 +4,5 @@ pub mod BlockLoops
 pub mod BlocksRead
 pub mod Rising
 pub mod Filling
+pub mod Verdicts
+pub mod Opens

@@ -5,7 +5,6 @@ use Rattle.sorted_table.specs.declared.fault.TableFault.TheVariants.{Device, Dam
 use Rattle.sorted_table.specs.TableFiles.{IsDamaged}
 use Rattle.mds_out.specs.declared.disk.DiskFault.{DiskFault}
 use Rattle.mds_out.specs.declared.disk.DiskFault.TheVariants.{Device as DiskDevice, OutOfMemory as DiskMemory}
-use Rattle.mds_out.specs.Disk.{Image, Contents, Lengths, IsUnchanged, AreSame, LeavesOnly}
 use Rattle.mds_out.specs.Fault.{Rose}
 use Rattle.mds_out.specs.Known.{OnTold}
 
@@ -20,15 +19,6 @@ pub record HasTableCause {T : Type 0} (before now : ℕ) (result : Result T Tabl
   pub device : IsErrOf result Device → Rose before now
   pub other : IfErr result (λ fault. fault ≢ Device → now ≡ before)
   pub kept : OnOk result (now ≡ before)
-
--- A call that only reads: what a read gives, the images and the count of writes and cuts are as before, at each moment.
-pub record IsLooking {D : Type 0} (seen : D → Contents) (sizes : D → Lengths) (images : D → Image → Type 0) (moment : D → ℕ) (since : D → ℕ → Image → Type 0)
-    (changes_asked : D → ℕ) (leads : D → D → Type 0) (old new : D) : Type 0 where
-  pub unchanged : IsUnchanged (seen old) (seen new) (sizes old) (sizes new)
-  pub crash : AreSame (images old) (images new)
-  pub any_moment : LeavesOnly moment since old new (images old)
-  pub lasts : leads old new
-  pub changes : changes_asked new ≡ changes_asked old
 
 -- an opening's refusal: what was found damaged is what is wrong with the file, where the disk tells it
 abbrev pub IsOpenAnswer : {T : Type 0} → Option (List ℕ) → Result T TableFault → Type 0
@@ -50,3 +40,10 @@ IsCopyAnswer seen (Ok _) = ⊤
 IsCopyAnswer seen (Err Device) = ⊤
 IsCopyAnswer seen (Err (Damaged place damage)) = OnTold seen (λ file. ⊥)
 IsCopyAnswer seen (Err OutOfMemory) = ⊤
+
+-- a refusal is the disk's, or want of memory
+abbrev pub IsMemoryAnswer : {T : Type 0} → Result T TableFault → Type 0
+IsMemoryAnswer (Ok _) = ⊤
+IsMemoryAnswer (Err Device) = ⊤
+IsMemoryAnswer (Err (Damaged place damage)) = ⊥
+IsMemoryAnswer (Err OutOfMemory) = ⊤

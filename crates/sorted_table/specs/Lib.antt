@@ -4,4 +4,6 @@ pub mod Reading
 pub mod Blocks
 pub mod TableFiles
 pub mod Checks
+pub mod Tables
 pub mod Answers
+pub mod Openings

@@ -1,6 +1,7 @@
 //! The rows of a block.
-ghost use Rattle.std.specs.Prelude.{◌≡◌, IfOk, MatchOption, List, Some, None, ⊤, ◌≤◌, length};
+ghost use Rattle.std.specs.Prelude.{◌≡◌, IfOk, IfSome, IsTrue, MatchOption, List, Some, None, ⊤, ◌≤◌, length};
 ghost use Rattle.std.specs.Option.{option_map};
+ghost use Rattle.mds_base.specs.Name.{is_name};
 ghost use Rattle.sorted_table.specs.Blocks.{block_size};
 ghost use Rattle.sorted_table.specs.Lines.{row_in};
 ghost use Rattle.sorted_table.specs.Reading.{Gives, are_zeros, rows_at, from_at, block_at};
@@ -62,14 +63,16 @@ fn are_zeros(bytes: &[u8]) -> bool
 
 /// The first row of a block that is not below a key; `None` where the bytes up to it are no block.
 pub(crate) fn block_from<'a>(block: &'a [u8], key: &RowKey) -> Option<Option<Line<'a>>>
-    ensures { (rows : List TableRow) → block_at block.now ≡ Some rows → Gives (λ line. option_map row_in line) result (Some (row_from rows key.now)) }
+    ensures from { (rows : List TableRow) → block_at block.now ≡ Some rows → Gives (λ line. option_map row_in line) result (Some (row_from rows key.now)) }
+    ensures named { IfSome result (λ line. IfSome line (λ l. IsTrue (is_name l.key.name.now))) }
 {
     let (count, rest) = u16_at(block)?;
     from_at(count as usize, rest, key)
 }
 
 fn from_at<'a>(count: usize, bytes: &'a [u8], key: &RowKey) -> Option<Option<Line<'a>>>
-    ensures { Gives (λ line. option_map row_in line) result (from_at count key.now bytes.now) }
+    ensures from { Gives (λ line. option_map row_in line) result (from_at count key.now bytes.now) }
+    ensures named { IfSome result (λ line. IfSome line (λ l. IsTrue (is_name l.key.name.now))) }
 {
     let mut rest = bytes;
     for _place in 0..count {

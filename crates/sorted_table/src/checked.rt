@@ -38,26 +38,27 @@ impl Checked {
     pub(crate) fn push(
         &mut self,
         alloc: Global,
-        mut rows: Vec<TableRow>,
+        rows: &[TableRow],
         size: usize,
     ) -> Result<bool, AllocError>
-        requires size { size ≡ block_size rows.items }
+        requires size { size ≡ block_size rows.now }
         requires small { size ≤ BLOCK_BYTES }
-        ensures good { IfOk result (λ good. good ≡ follows self.old.size self.old.last self.old.rows rows.items) }
-        ensures checked { IfOk result (λ good. IsTrue good → (blocks : List (List TableRow)) → IsChecked self.old blocks → IsChecked self.new (blocks ++ rows.items ∷ [])) }
+        ensures good { IfOk result (λ good. good ≡ follows self.old.size self.old.last self.old.rows rows.now) }
+        ensures checked { IfOk result (λ good. IsTrue good → (blocks : List (List TableRow)) → IsChecked self.old blocks → IsChecked self.new (blocks ++ rows.now ∷ [])) }
+        ensures count { IfOk result (λ good. length self.new.firsts.items ≤ length self.old.firsts.items + 1) }
     {
-        let Some(first) = rows.first() else {
+        let (Some(first), Some(last)) = (rows.first(), rows.last()) else {
             return Ok(false);
         };
         let is_full = BLOCK_BYTES < self.size as usize + row_size(&first.key, first.attr.as_ref());
-        if !is_full || !rise_behind(self.last.as_ref(), &rows) || !fits(self.rows, rows.len()) {
+        if !is_full || !rise_behind(self.last.as_ref(), rows) || !fits(self.rows, rows.len()) {
             return Ok(false);
         }
-        self.firsts.push(copy_key(alloc, &first.key)?)?;
+        let first_key = copy_key(alloc, &first.key)?;
+        let last_key = copy_key(alloc, &last.key)?;
+        self.firsts.push(first_key)?;
         self.rows += rows.len() as u64;
-        if let Some(last) = rows.pop() {
-            self.last = Some(last.key);
-        }
+        self.last = Some(last_key);
         self.size = size as u16;
         Ok(true)
     }

@@ -4,11 +4,14 @@
 mod block;
 mod checked;
 mod fault;
+mod opening;
 mod reading;
 mod spelling;
+mod table;
 mod table_row;
 
 pub use fault::{TableDamage, TableFault};
+pub use table::Table;
 pub use table_row::{Held, TableRow};
 
 /// The bytes of a block.

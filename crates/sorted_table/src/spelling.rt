@@ -71,6 +71,25 @@ fn put_stamp(out: &mut Vec<u8>, attr: &Attr) -> Result<(), AllocError>
     put_u64(out, attr.mtime)
 }
 
+// Mark 2, and attributes with owner and time.
+fn put_stamped(out: &mut Vec<u8>, attr: &Attr) -> Result<(), AllocError>
+    requires { attr.now.mode ≤ 4095 }
+    ensures { OnOk result (out.new.items ≡ out.old.items ++ 2 ∷ (plain_spelling attr.now ++ stamp_spelling attr.now)) }
+{
+    out.push(2)?;
+    put_plain(out, attr)?;
+    put_stamp(out, attr)
+}
+
+// Mark 1, and attributes without.
+fn put_unstamped(out: &mut Vec<u8>, attr: &Attr) -> Result<(), AllocError>
+    requires { attr.now.mode ≤ 4095 }
+    ensures { OnOk result (out.new.items ≡ out.old.items ++ 1 ∷ plain_spelling attr.now) }
+{
+    out.push(1)?;
+    put_plain(out, attr)
+}
+
 fn put_marked(out: &mut Vec<u8>, attr: Option<&Attr>) -> Result<(), AllocError>
     requires { IsMarked (option_map (λ a. a.now) attr) }
     ensures { OnOk result (out.new.items ≡ out.old.items ++ marked_spelling (option_map (λ a. a.now) attr.entry)) }
@@ -80,15 +99,8 @@ fn put_marked(out: &mut Vec<u8>, attr: Option<&Attr>) -> Result<(), AllocError>
             out.push(0)?;
             Ok(())
         }
-        Some(attr) if attr.is_stamped() => {
-            out.push(2)?;
-            put_plain(out, attr)?;
-            put_stamp(out, attr)
-        }
-        Some(attr) => {
-            out.push(1)?;
-            put_plain(out, attr)
-        }
+        Some(attr) if attr.is_stamped() => put_stamped(out, attr),
+        Some(attr) => put_unstamped(out, attr),
     }
 }
 
