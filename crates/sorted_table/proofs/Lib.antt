@@ -6,3 +6,6 @@ pub mod Rising
 pub mod Filling
 pub mod Verdicts
 pub mod Opens
+pub mod Elsewhere
+pub mod Builds
+pub mod Looking

@@ -7,3 +7,5 @@ pub mod Checks
 pub mod Tables
 pub mod Answers
 pub mod Openings
+pub mod Building
+pub mod Looks

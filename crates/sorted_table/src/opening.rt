@@ -1,5 +1,5 @@
 //! Reading the file of a table, block by block.
-ghost use Rattle.std.specs.Prelude.{◌≡◌, ◌+◌, ◌*◌, ◌-◌, ◌<◌, ◌≤◌, ◌^◌, ◌++◌, ⊥, List, ℕ, Option, Some, IfOk, OnOk, IsErrOf, IsTrue, ◌↔◌, take, drop, length};
+ghost use Rattle.std.specs.Prelude.{◌≡◌, ◌+◌, ◌*◌, ◌-◌, ◌<◌, ◌≤◌, ◌^◌, ◌++◌, List, ℕ, Option, Some, IfOk, OnOk, IsErrOf, IsTrue, ◌↔◌, take, drop, length};
 ghost use Rattle.mds_out.specs.Disk.{AreSame, LeavesOnly, IsUnchanged, HasDiskCause};
 ghost use Rattle.mds_out.specs.Calls.{next_number};
 ghost use Rattle.mds_out.specs.Known.{OnTold};
@@ -58,7 +58,7 @@ fn read_blocks<D: Disk>(
     requires short { end < 2 ^ 63 }
     requires within { OnTold (D.sizes disk.old file) (λ size. end ≤ size) }
     ensures opening { IfOk result (λ opening. OnTold (D.seen disk.old file) (IsOpening opening)) }
-    ensures reaches { IfOk result (λ opening. (n : ℕ) → opening.at ≡ BLOCK_BYTES * n → KeepsAtMost n opening.checked) }
+    ensures aligned { IfOk result (λ opening. (n : ℕ) × (opening.at ≡ BLOCK_BYTES * n) × KeepsAtMost n opening.checked) }
     ensures at { IfOk result (λ opening. (opening.at ≤ end) × (end < opening.at + BLOCK_BYTES)) }
     ensures unchanged { IsUnchanged (D.seen disk.old) (D.seen disk.new) (D.sizes disk.old) (D.sizes disk.new) }
     ensures crash { AreSame (D.images disk.old) (D.images disk.new) }

@@ -1,9 +1,11 @@
 //! Spelling a row into the bytes of its block.
-ghost use Rattle.std.specs.Prelude.{◌≡◌, ◌+◌, ◌<◌, ◌≤◌, ◌++◌, ◌∷◌, Option, OnOk, length};
+ghost use Rattle.std.specs.Prelude.{◌≡◌, ◌+◌, ◌<◌, ◌≤◌, ◌++◌, ◌∷◌, ◌-◌, Option, OnOk, IsTrue, length, take, replicate};
 ghost use Rattle.std.specs.Int.{w16, w32, w64, to_be_bytes};
 ghost use Rattle.std.specs.Option.{option_map};
-ghost use Rattle.sorted_table.specs.TableRows.{IsMarked, plain_spelling, stamp_spelling, marked_spelling, key_spelling, row_spelling};
+ghost use Rattle.mds_base.specs.Name.{is_name};
+ghost use Rattle.sorted_table.specs.TableRows.{IsKey, IsMarked, plain_spelling, stamp_spelling, marked_spelling, key_spelling, row_spelling};
 
+use crate::BLOCK_BYTES;
 use byteorder::{BigEndian, ByteOrder};
 use mds_base::{Attr, Name, RowKey};
 use std::alloc::AllocError;
@@ -41,7 +43,8 @@ fn put_numbers(out: &mut Vec<u8>, dir: u64, part: u32, rev: u64) -> Result<(), A
 }
 
 fn put_name(out: &mut Vec<u8>, name: &Name) -> Result<(), AllocError>
-    ensures { OnOk result (out.new.items ≡ out.old.items ++ length name.now ∷ name.now) }
+    ensures name { IsTrue (is_name name.now) }
+    ensures put { OnOk result (out.new.items ≡ out.old.items ++ length name.now ∷ name.now) }
 {
     let bytes = name.bytes();
     out.push(bytes.len() as u8)?;
@@ -49,7 +52,8 @@ fn put_name(out: &mut Vec<u8>, name: &Name) -> Result<(), AllocError>
 }
 
 fn put_key(out: &mut Vec<u8>, key: &RowKey) -> Result<(), AllocError>
-    ensures { OnOk result (out.new.items ≡ out.old.items ++ key_spelling key.now) }
+    ensures key { OnOk result (IsKey key.now) }
+    ensures put { OnOk result (out.new.items ≡ out.old.items ++ key_spelling key.now) }
 {
     put_numbers(out, key.dir, key.part, key.rev)?;
     put_name(out, &key.name)
@@ -104,6 +108,17 @@ fn put_marked(out: &mut Vec<u8>, attr: Option<&Attr>) -> Result<(), AllocError>
     }
 }
 
+/// Fills a block: the count of its rows, the rows, and zeros to its end.
+pub(crate) fn fill_block(block: &mut Vec<u8>, count: u16, rows: &[u8]) -> Result<(), AllocError>
+    ensures block { OnOk result (block.new.items ≡ take BLOCK_BYTES (to_be_bytes w16 count ++ rows.now) ++ replicate (BLOCK_BYTES - length (to_be_bytes w16 count ++ rows.now)) 0) }
+    ensures size { OnOk result (length block.new.items ≡ BLOCK_BYTES) }
+{
+    block.clear();
+    put_u16(block, count)?;
+    block.extend_from_slice(rows)?;
+    block.resize(BLOCK_BYTES, 0)
+}
+
 /// Appends the spelling of a row with this key.
 pub(crate) fn put_row(
     out: &mut Vec<u8>,
@@ -111,7 +126,8 @@ pub(crate) fn put_row(
     attr: Option<&Attr>,
 ) -> Result<(), AllocError>
     requires { IsMarked (option_map (λ a. a.now) attr) }
-    ensures { OnOk result (out.new.items ≡ out.old.items ++ (key_spelling key.now ++ marked_spelling (option_map (λ a. a.now) attr.entry))) }
+    ensures key { OnOk result (IsKey key.now) }
+    ensures put { OnOk result (out.new.items ≡ out.old.items ++ (key_spelling key.now ++ marked_spelling (option_map (λ a. a.now) attr.entry))) }
 {
     put_key(out, key)?;
     put_marked(out, attr)
@@ -120,6 +136,7 @@ pub(crate) fn put_row(
 /// How many bytes the spelling of a row with this key takes.
 pub(crate) fn row_size(key: &RowKey, attr: Option<&Attr>) -> usize
     ensures size { result ≡ length (key_spelling key.now ++ marked_spelling (option_map (λ a. a.now) attr.entry)) }
+    ensures some { 1 ≤ result }
     ensures small { result ≤ 307 }
 {
     let marked = match attr {

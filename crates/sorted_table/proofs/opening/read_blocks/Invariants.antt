@@ -9,7 +9,7 @@ abbrev pub invariant-whole : goal.invariant-whole
 invariant-whole g l = record {
   within : l.at ≤ l.end;
   opening : OnTold (g.D.Disk.seen l.fn.disk l.file) (IsOpening (opening l.at l.sum l.checked));
-  reaches : (n : ℕ) → l.at ≡ 4096 * n → KeepsAtMost n l.checked;
+  aligned : (n : ℕ) × (l.at ≡ 4096 * n) × KeepsAtMost n l.checked;
   unchanged : IsUnchanged (g.D.Disk.seen l.fn.disk) (g.D.Disk.seen l.disk) (g.D.Disk.sizes l.fn.disk) (g.D.Disk.sizes l.disk);
   same : AreSame (g.D.Disk.images l.fn.disk) (g.D.Disk.images l.disk);
   moment : LeavesOnly g.D.Disk.moment g.D.Disk.images_since l.fn.disk l.disk (g.D.Disk.images l.fn.disk);
