@@ -1,5 +1,6 @@
 -- What a builder writes: blocks one behind another, and what is made of them.
-use Rattle.std.proofs.Common.{◌≡◌, ◌∙◌, sym, ap, subst, refl, ℕ, zero, suc, ◌+◌, ◌-◌, ◌<◌, ◌≤◌, ◌^◌, ◌*◌, max, Bool, true, false, List, [], ◌∷◌, ◌++◌, append_assoc, length, take, drop, replicate, Option, None, Some, arith, length-append}
+use Rattle.std.proofs.Common.{◌≡◌, ◌∙◌, sym, ap, subst, refl, ℕ, zero, suc, ◌+◌, ◌-◌, ◌<◌, ◌≤◌, ◌^◌, ◌*◌, max, Bool, true, false, List, [], ◌∷◌, ◌++◌, append_assoc, length, take, drop, replicate, Option, None, Some, Result, Ok, Err, OnOk, cond, arith, length-append}
+use Rattle.std.specs.Prelude.{is_ok}
 use Rattle.std.specs.Int.{w16, w32, w64, to_be_bytes}
 use Rattle.std.specs.List.{AllByRecursion}
 use Rattle.std.specs.declared.cmp.Ordering.TheVariants.{Less}
@@ -238,3 +239,22 @@ ready_of table rows seen sizes size known short reaches has = record { size = si
     some : (held : Option (List ℕ)) → OnTold held (HasRows table rows) → OnTold held (IsSomeTable table)
     some None has = tt
     some (Some bytes) has = record { rows = rows; has = has }
+
+-- ---- the present block, written where it has rows
+
+pub last_none : (b : Builder) (full : List (List TableRow)) (present rows : List TableRow) (seen : Option (List ℕ)) → Builds b full present rows seen → b.count ≡ 0 → Builds b (closed full present) [] rows seen
+last_none b full [] rows seen builds none = builds
+last_none b full (row ∷ present) rows seen builds none = absurd (omega (arith, builds.count))
+
+pub last_some : (old new : Builder) (full : List (List TableRow)) (present rows : List TableRow) (seen seen' : Option (List ℕ)) → Builds old full present rows seen → 0 < old.count → (0 < length present → Builds new (full ++ present ∷ []) [] rows seen') → Builds new (closed full present) [] rows seen'
+last_some old new full present rows seen seen' builds some written =
+    let here : 0 < length present = omega (arith, builds.count) in
+    subst (λ (blocks : List (List TableRow)). Builds new blocks [] rows seen') (sym (closed_is full present here)) (written here)
+
+pub on_ok_two : {T E A B P : Type 0} (r : Result T E) → (A → B → P) → OnOk r A → OnOk r B → OnOk r P
+on_ok_two (Ok x) f a b = f a b
+on_ok_two (Err e) f a b = tt
+
+pub filled_as : {T E : Type 0} (r : Result T E) (new old items : List ℕ) (len : ℕ) → new ≡ cond (is_ok r) (take 4096 old ++ replicate (4096 - len) 0) old → old ≡ items → len ≡ length items → OnOk r (new ≡ take 4096 items ++ replicate (4096 - length items) 0)
+filled_as (Ok x) new old items len is same count = is ∙ ap (λ l. take 4096 l ++ replicate (4096 - len) 0) same ∙ ap (λ n. take 4096 items ++ replicate (4096 - n) 0) count
+filled_as (Err e) new old items len is same count = tt

@@ -10,8 +10,11 @@ use Rattle.sorted_table.specs.declared.checked.Checked.{Checked}
 use Rattle.sorted_table.specs.declared.opening.Opening.{Opening}
 use Rattle.sorted_table.specs.declared.fault.TableFault.{TableFault}
 use Rattle.sorted_table.specs.Checks.{IsRead, IsChecked}
-use Rattle.sorted_table.specs.Openings.{IsOpening, IsVerdict}
-use Rattle.sorted_table.specs.Tables.{TableState}
+use Rattle.std.specs.Prelude.{IfOk}
+use Rattle.sorted_table.specs.declared.fault.TableFault.TheVariants.{Device, Damaged, OutOfMemory}
+use Rattle.sorted_table.specs.Answers.{IsOpenAnswer}
+use Rattle.sorted_table.specs.Openings.{IsOpening, IsVerdict, IsVerdictAnswer, KeepsAtMost}
+use Rattle.sorted_table.specs.Tables.{TableState, IsSomeTable, IsReady}
 
 -- ---- a call that has not begun
 
@@ -59,6 +62,23 @@ opening_more (Some bytes) at sum sum' checked after block so_far read hashed tak
       read = subst (IsRead after) whole (taken (take at bytes) so_far.read);
     }
 
+-- a chunk of the size of a block
+pub read_whole : (seen seen' : Option (List ℕ)) (block : List ℕ) (count at : ℕ) → seen' ≡ seen → count ≡ 4096 → OnTold seen' (λ bytes. block ≡ take count (drop at bytes)) → OnTold seen (λ bytes. block ≡ take 4096 (drop at bytes))
+read_whole seen seen' block count at same size read =
+    let P : Option (List ℕ) → Type 0 = λ s. OnTold s (λ bytes. block ≡ take count (drop at bytes)) in
+    let Q : ℕ → Type 0 = λ n. OnTold seen (λ bytes. block ≡ take n (drop at bytes)) in
+    subst Q size (subst P same read)
+
+-- so many bytes of a file
+pub read_part : (seen seen' : Option (List ℕ)) (part : List ℕ) (count n at : ℕ) → seen' ≡ seen → count ≡ n → OnTold seen' (λ bytes. part ≡ take count (drop at bytes)) → OnTold seen (λ bytes. part ≡ take n (drop at bytes))
+read_part seen seen' part count n at same size read =
+    let P : Option (List ℕ) → Type 0 = λ s. OnTold s (λ bytes. part ≡ take count (drop at bytes)) in
+    let Q : ℕ → Type 0 = λ n. OnTold seen (λ bytes. part ≡ take n (drop at bytes)) in
+    subst Q size (subst P same read)
+
+pub within_known : (known : Option ℕ) (size to : ℕ) → known ≡ Some size → to ≤ size → OnTold known (λ s. to ≤ s)
+within_known known size to is le = let P : Option ℕ → Type 0 = λ k. OnTold k (λ s. to ≤ s) in subst P (sym is) le
+
 -- ---- the end
 
 pub some_same : (a b : ℕ) → Some a ≡ Some b → a ≡ b
@@ -80,3 +100,27 @@ verdict_told (Some bytes) known size at end sum checked counts kept found file r
     let whole : bytes ≡ (take at bytes ++ counts) ++ kept = sym (take-append-drop end bytes) ∙ ap (λ l. l ++ drop end bytes) (sym front) ∙ ap (λ l. (take at bytes ++ counts) ++ l) (sym sum_is) in
     verdict bytes (take at bytes) so_far.read so_far.blocks (length-take-le at bytes (omega arith) ∙ so_far.at) whole (hashed (take at bytes) so_far.sum)
     (sym (ap length front ∙ length-take-le end bytes (omega arith))) (omega arith)
+
+pub open_answer : (file : ℕ) (seen : Option (List ℕ)) (result : Result TableState TableFault) → OnTold seen (λ bytes. IsVerdict file bytes result) → IsVerdictAnswer result → IsOpenAnswer seen result
+open_answer file seen (Ok table) told answer = tt
+open_answer file seen (Err Device) told answer = tt
+open_answer file seen (Err (Damaged place damage)) told answer = told
+open_answer file seen (Err OutOfMemory) told answer = tt
+
+second : (P Q : List ℕ → Type 0) (seen : Option (List ℕ)) → OnTold seen (λ bytes. P bytes × Q bytes) → OnTold seen Q
+second P Q None told = tt
+second P Q (Some bytes) told = told.1
+
+pub open_ready : (seen seen' : Contents) (sizes' : Lengths) (file size n : ℕ) (checked : Option Checked) (result : Result TableState TableFault) → seen' file ≡ seen file → sizes' file ≡ Some size → size < 2 ^ 63 → 4096 * n ≤ size → KeepsAtMost n checked
+    → OnTold (seen file) (λ bytes. IsVerdict file bytes result) → IfOk result (λ table. table.file ≡ file) → IfOk result (λ table. (m : ℕ) → KeepsAtMost m checked → length table.firsts ≤ m) → IfOk result (λ table. IsReady table seen' sizes')
+open_ready seen seen' sizes' file size n checked (Err e) same known short reaches keeps told file_is firsts = tt
+open_ready seen seen' sizes' file size n checked (Ok table) same known short reaches keeps told file_is firsts =
+    let P : Option (List ℕ) → Type 0 = λ s. OnTold s (IsSomeTable table) in
+    let few = firsts n keeps in
+    record {
+      size = size;
+      known = ap sizes' file_is ∙ known;
+      short = short;
+      reaches = omega arith;
+      told = subst P (sym (ap seen' file_is ∙ same)) (second (λ bytes. table.file ≡ file) (IsSomeTable table) (seen file) told);
+    }

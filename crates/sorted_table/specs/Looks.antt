@@ -21,3 +21,10 @@ IsThis wanted (Ok found) = found ≡ wanted
 IsThis wanted (Err Device) = ⊥
 IsThis wanted (Err (Damaged place damage)) = ⊥
 IsThis wanted (Err OutOfMemory) = ⊤
+
+-- no fault of the disk, and no damage
+abbrev pub IsPlain : {T : Type 0} → Result T TableFault → Type 0
+IsPlain (Ok _) = ⊤
+IsPlain (Err Device) = ⊥
+IsPlain (Err (Damaged place damage)) = ⊥
+IsPlain (Err OutOfMemory) = ⊤

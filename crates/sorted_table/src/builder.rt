@@ -9,7 +9,7 @@ ghost use Rattle.sorted_table.specs.Tables.{IsReady, HoldsRows, IsDurable};
 ghost use Rattle.sorted_table.specs.declared.table_row.TableRow.{TableRow};
 
 use crate::checked::copy_key;
-use crate::spelling::{fill_block, put_row, put_u32, put_u64, row_size};
+use crate::spelling::{fill_block, put_counts, put_row, row_size};
 use crate::writes::{put_block, put_end};
 use crate::{BLOCK_BYTES, ROW_BYTES, Table, TableFault};
 use md5::{Digest, Md5};
@@ -114,7 +114,7 @@ impl Builder {
         ensures failed { IsErrOf result TableFault.Device → D.fails disk.old disk.new }
         ensures asked { D.asked disk.new ≤ D.asked disk.old + 2 }
     {
-        if self.rows.len() + size <= ROW_BYTES {
+        if self.rows.as_slice().len() + size <= ROW_BYTES {
             return Ok(());
         }
         self.write_block(disk)
@@ -139,12 +139,23 @@ impl Builder {
         let Some(number) = self.number.checked_add(1) else {
             return Err(AllocError);
         };
-        if self.count == 0 {
-            self.firsts.push(copy_key(alloc, key)?)?;
-        }
+        self.keep_first(alloc, key)?;
         put_row(&mut self.rows, key, attr)?;
         self.count = count;
         self.number = number;
+        Ok(())
+    }
+
+    // Keeps the key of a row that begins a block.
+    fn keep_first(&mut self, alloc: Global, key: &RowKey) -> Result<(), AllocError>
+        ensures first { OnOk result (self.old.count ≡ 0 → self.new.firsts.items ≡ self.old.firsts.items ++ key.now ∷ []) }
+        ensures later { 0 < self.old.count → self.new.firsts ≡ self.old.firsts }
+        ensures others { self.new ≡ record self.old { firsts = self.new.firsts } }
+    {
+        if self.count > 0 {
+            return Ok(());
+        }
+        self.firsts.push(copy_key(alloc, key)?)?;
         Ok(())
     }
 
@@ -212,9 +223,7 @@ impl Builder {
         ensures failed { IsErrOf result TableFault.Device → D.fails disk.old disk.new }
         ensures asked { D.asked disk.new ≤ D.asked disk.old + 3 }
     {
-        self.block.clear();
-        put_u32(&mut self.block, self.written)?;
-        put_u64(&mut self.block, self.number)?;
+        put_counts(&mut self.block, self.written, self.number)?;
         self.sum.update(self.block.as_slice());
         let Builder {
             file,

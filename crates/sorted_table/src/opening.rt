@@ -56,7 +56,7 @@ fn read_blocks<D: Disk>(
 ) -> Result<Opening, TableFault>
     requires block { length block.old ≡ BLOCK_BYTES }
     requires short { end < 2 ^ 63 }
-    requires within { OnTold (D.sizes disk.old file) (λ size. end ≤ size) }
+    requires known { D.sizes disk.old file ≡ Some (end + SUM_BYTES) }
     ensures opening { IfOk result (λ opening. OnTold (D.seen disk.old file) (IsOpening opening)) }
     ensures aligned { IfOk result (λ opening. (n : ℕ) × (opening.at ≡ BLOCK_BYTES * n) × KeepsAtMost n opening.checked) }
     ensures at { IfOk result (λ opening. (opening.at ≤ end) × (end < opening.at + BLOCK_BYTES)) }
@@ -198,12 +198,42 @@ pub(crate) fn open_in<D: Disk>(
         });
     }
     let end = size - SUM_BYTES as u64;
+    let opening = read_blocks(alloc, disk, file, end, block)?;
+    let rest = (end - opening.at) as usize;
+    open_rest(disk, file, end, opening, &mut block[..rest])
+}
+
+// Reads the counts and the sum behind the blocks of a file.
+fn open_rest<D: Disk>(
+    disk: &mut D,
+    file: u32,
+    end: u64,
+    opening: Opening,
+    counts: &mut [u8],
+) -> Result<Table, TableFault>
+    requires counts { opening.at + length counts.old ≡ end }
+    requires few { length counts.old < BLOCK_BYTES }
+    requires short { end + SUM_BYTES < 2 ^ 63 }
+    requires long { FIXED_BYTES ≤ end + SUM_BYTES }
+    requires known { D.sizes disk.old file ≡ Some (end + SUM_BYTES) }
+    requires opening { OnTold (D.seen disk.old file) (IsOpening opening) }
+    requires aligned { (n : ℕ) × (opening.at ≡ BLOCK_BYTES * n) × KeepsAtMost n opening.checked }
+    ensures opened { IfOk result (λ table. table.file ≡ file) }
+    ensures ready { IfOk result (λ table. IsReady table (D.seen disk.new) (D.sizes disk.new)) }
+    ensures unchanged { IsUnchanged (D.seen disk.old) (D.seen disk.new) (D.sizes disk.old) (D.sizes disk.new) }
+    ensures crash { AreSame (D.images disk.old) (D.images disk.new) }
+    ensures any_moment { LeavesOnly D.moment D.images_since disk.old disk.new (D.images disk.old) }
+    ensures answer { IsOpenAnswer (D.seen disk.old file) result }
+    ensures cause { HasTableCause (D.faults disk.old) (D.faults disk.new) result }
+    ensures lasts { D.lasts disk.old disk.new }
+    ensures failed { IsErrOf result TableFault.Device → D.fails disk.old disk.new }
+    ensures changes { D.changes_asked disk.new ≡ D.changes_asked disk.old }
+{
     let Opening {
         at,
         mut sum,
         checked,
-    } = read_blocks(alloc, disk, file, end, block)?;
-    let counts = &mut block[..(end - at) as usize];
+    } = opening;
     read_at(disk, file, at, counts)?;
     sum.update(&*counts);
     let mut kept = [0; SUM_BYTES];

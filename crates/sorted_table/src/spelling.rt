@@ -1,5 +1,5 @@
 //! Spelling a row into the bytes of its block.
-ghost use Rattle.std.specs.Prelude.{◌≡◌, ◌+◌, ◌<◌, ◌≤◌, ◌++◌, ◌∷◌, ◌-◌, Option, OnOk, IsTrue, length, take, replicate};
+ghost use Rattle.std.specs.Prelude.{◌≡◌, ◌+◌, ◌<◌, ◌≤◌, ◌++◌, ◌∷◌, ◌-◌, ◌^◌, Option, OnOk, IsTrue, length, take, replicate};
 ghost use Rattle.std.specs.Int.{w16, w32, w64, to_be_bytes};
 ghost use Rattle.std.specs.Option.{option_map};
 ghost use Rattle.mds_base.specs.Name.{is_name};
@@ -18,7 +18,7 @@ fn put_u16(out: &mut Vec<u8>, number: u16) -> Result<(), AllocError>
     out.extend_from_slice(&bytes)
 }
 
-pub(crate) fn put_u32(out: &mut Vec<u8>, number: u32) -> Result<(), AllocError>
+fn put_u32(out: &mut Vec<u8>, number: u32) -> Result<(), AllocError>
     ensures { OnOk result (out.new.items ≡ out.old.items ++ to_be_bytes w32 number) }
 {
     let mut bytes = [0; 4];
@@ -26,7 +26,7 @@ pub(crate) fn put_u32(out: &mut Vec<u8>, number: u32) -> Result<(), AllocError>
     out.extend_from_slice(&bytes)
 }
 
-pub(crate) fn put_u64(out: &mut Vec<u8>, number: u64) -> Result<(), AllocError>
+fn put_u64(out: &mut Vec<u8>, number: u64) -> Result<(), AllocError>
     ensures { OnOk result (out.new.items ≡ out.old.items ++ to_be_bytes w64 number) }
 {
     let mut bytes = [0; 8];
@@ -117,6 +117,17 @@ pub(crate) fn fill_block(block: &mut Vec<u8>, count: u16, rows: &[u8]) -> Result
     put_u16(block, count)?;
     block.extend_from_slice(rows)?;
     block.resize(BLOCK_BYTES, 0)
+}
+
+/// The counts of a table's blocks and rows, in place of what was there.
+pub(crate) fn put_counts(out: &mut Vec<u8>, blocks: u32, rows: u64) -> Result<(), AllocError>
+    ensures counts { OnOk result (out.new.items ≡ to_be_bytes w32 blocks ++ to_be_bytes w64 rows) }
+    ensures few { blocks < 2 ^ 32 }
+    ensures few_rows { rows < 2 ^ 64 }
+{
+    out.clear();
+    put_u32(out, blocks)?;
+    put_u64(out, rows)
 }
 
 /// Appends the spelling of a row with this key.

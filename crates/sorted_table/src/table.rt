@@ -1,4 +1,4 @@
-ghost use Rattle.std.specs.Prelude.{◌≡◌, ◌+◌, ◌*◌, ◌<◌, ◌≤◌, ◌^◌, List, ℕ, Option, Some, Ok, true, false, IfOk, OnOk, IsErrOf, length, take, drop};
+ghost use Rattle.std.specs.Prelude.{◌≡◌, ◌+◌, ◌*◌, ◌<◌, ◌≤◌, ◌^◌, List, ℕ, Option, Some, Ok, true, false, IfOk, OnOk, IsErrOf, MatchOption, length, take, drop};
 ghost use Rattle.std.specs.List.{slice_get};
 ghost use Rattle.std.specs.List.Sorted.{IsPartitionedBy, IsPartitionPoint};
 ghost use Rattle.std.specs.Ordering.{is_le};
@@ -7,7 +7,7 @@ ghost use Rattle.mds_out.specs.Disk.{AreSame, LeavesOnly, IsUnchanged, HasDiskCa
 ghost use Rattle.mds_out.specs.Calls.{next_number};
 ghost use Rattle.mds_out.specs.Known.{OnTold};
 ghost use Rattle.sorted_table.specs.Answers.{IsOpenAnswer, IsLookAnswer, IsCopyAnswer, HasTableCause};
-ghost use Rattle.sorted_table.specs.Looks.{held_first, IsThis};
+ghost use Rattle.sorted_table.specs.Looks.{held_first, IsThis, IsPlain};
 ghost use Rattle.sorted_table.specs.Reading.{block_at};
 ghost use Rattle.sorted_table.specs.TableRows.{held_of, held_in, row_from, key_of};
 ghost use Rattle.sorted_table.specs.Tables.{IsReady, HoldsRows};
@@ -120,14 +120,15 @@ impl Table {
         ensures asked { D.asked disk.new ≤ D.asked disk.old + 1 }
         ensures changes { D.changes_asked disk.new ≡ D.changes_asked disk.old }
     {
-        let upto = blocks_upto(&self.firsts, key);
+        let firsts = self.firsts.as_slice();
+        let upto = blocks_upto(firsts, key);
         if upto == 0 {
-            return first_of(alloc, &self.firsts, 0);
+            return first_of(alloc, firsts, 0);
         }
         read_block(disk, self.file, upto - 1, frame)?;
-        match key_at(alloc, frame.bytes(), key)? {
-            Some(found) => Ok(Some(found)),
-            None => first_of(alloc, &self.firsts, upto),
+        match key_at(alloc, frame.bytes(), key) {
+            Ok(found) => found_or(alloc, found, firsts, upto),
+            Err(fault) => Err(fault),
         }
     }
 }
@@ -214,13 +215,30 @@ fn key_at(alloc: Global, block: &[u8], key: &RowKey) -> Result<Option<RowKey>, T
     Ok(Some(found))
 }
 
+/// The key that was found, or else the first key of a block.
+fn found_or(
+    alloc: Global,
+    found: Option<RowKey>,
+    firsts: &[RowKey],
+    place: usize,
+) -> Result<Option<RowKey>, TableFault>
+    ensures found { MatchOption found (IsThis (slice_get firsts.now place) result) (λ key. result ≡ Ok (Some key)) }
+    ensures plain { IsPlain result }
+{
+    match found {
+        Some(found) => Ok(Some(found)),
+        None => first_of(alloc, firsts, place),
+    }
+}
+
 /// The first key of a block; `None` where there is no such block.
 fn first_of(
     alloc: Global,
     firsts: &[RowKey],
     place: usize,
 ) -> Result<Option<RowKey>, TableFault>
-    ensures { IsThis (slice_get firsts.now place) result }
+    ensures first { IsThis (slice_get firsts.now place) result }
+    ensures plain { IsPlain result }
 {
     let Some(first) = firsts.get(place) else {
         return Ok(None);
