@@ -9,3 +9,4 @@ pub mod Opens
 pub mod Elsewhere
 pub mod Builds
 pub mod Looking
+pub mod Unique

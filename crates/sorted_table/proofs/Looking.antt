@@ -27,7 +27,7 @@ use Rattle.sorted_table.specs.Looks.{held_first, IsThis, IsPlain}
 use Rattle.sorted_table.specs.TableFiles.{table_front, table_spelling, counts_spelling}
 use Rattle.sorted_table.specs.Tables.{TableState, HasRows, IsSomeTable, HoldsRows}
 use Rattle.sorted_table.proofs.BlocksRead.{block_length}
-use Rattle.sorted_table.proofs.Rising.{AllAbove, all_left, all_right, rises_left, rises_right}
+use Rattle.sorted_table.proofs.Rising.{AllAbove, above_above, all_left, all_right, rises_left, rises_right}
 use Rattle.sorted_table.proofs.Filling.{AreSound, are_sound, block_read}
 use Rattle.md5.specs.Md5.{md5}
 
@@ -114,21 +114,24 @@ none_else : (other : Option TableRow) → key_of (or_else None other) ≡ key_of
 unfolding or_else
 none_else other = refl
 
+held_step : (row : TableRow) (rows : List TableRow) (key : RowKey) (r : Ordering) → row_key_cmp row.key key ≡ r → Rises (row ∷ rows) → held_first (row_from rows key) key ≡ held_in rows key → held_first (row_from (row ∷ rows) key) key ≡ held_in (row ∷ rows) key
+held_step row rows key r is rise rest = go r is
+  where
+    from_is : (r : Ordering) → row_key_cmp row.key key ≡ r → held_first (row_from (row ∷ rows) key) key ≡ held_first (cond (is_lt r) (row_from rows key) (Some row)) key
+    from_is r is = ap (λ x. held_first (cond (is_lt x) (row_from rows key) (Some row)) key) is
+    first_is : (r : Ordering) → row_key_cmp row.key key ≡ r → held_first (Some row) key ≡ cond (is_eq r) (held_of row.attr) Absent
+    first_is r is = ap (λ x. cond (is_eq x) (held_of row.attr) Absent) is
+    in_is : (r : Ordering) → row_key_cmp row.key key ≡ r → held_in (row ∷ rows) key ≡ cond (is_eq r) (held_of row.attr) (held_in rows key)
+    in_is r is = ap (λ x. cond (is_eq x) (held_of row.attr) (held_in rows key)) is
+    go : (r : Ordering) → row_key_cmp row.key key ≡ r → held_first (row_from (row ∷ rows) key) key ≡ held_in (row ∷ rows) key
+    go Less is = from_is Less is ∙ rest ∙ sym (in_is Less is)
+    go Equal is = from_is Equal is ∙ first_is Equal is ∙ sym (in_is Equal is)
+    go Greater is = from_is Greater is ∙ first_is Greater is ∙ sym (in_is Greater is ∙ held_over rows key (above_above key row.key rows (back row.key key is) rise.0))
+
 -- what the first row that is not below the key says of it is what all rows say
 pub held_from : (rows : List TableRow) (key : RowKey) → Rises rows → held_first (row_from rows key) key ≡ held_in rows key
 held_from [] key rise = refl
-held_from (row ∷ rows) key rise = go (row_key_cmp row.key key) refl
-  where
-    go : (r : Ordering) → row_key_cmp row.key key ≡ r → held_first (row_from (row ∷ rows) key) key ≡ held_in (row ∷ rows) key
-    go Less is = rw is (held_from rows key rise.1)
-    go Equal is = rw (is, is) refl
-    go Greater is =
-        let above = over_all rows (back row.key key is) rise.0 in
-        rw (is, is) (sym (held_over rows key above))
-      where
-        over_all : (later : List TableRow) → row_key_cmp key row.key ≡ Less → AllAbove row.key later → AllAbove key later
-        over_all [] less all = tt
-        over_all (x ∷ later) less all = (row_keys_total.trans key row.key x.key less all.0, over_all later less all.1)
+held_from (row ∷ rows) key rise = held_step row rows key (row_key_cmp row.key key) refl rise (held_from rows key rise.1)
 
 -- ---- the first keys
 
@@ -190,7 +193,7 @@ from_over before ([] ∷ blocks) key filled over = absurd filled
 from_over before ((row ∷ rows) ∷ blocks) key filled over = let greater = is_greater (row_key_cmp row.key key) over.0 in rw greater refl
 
 -- the block of this number answers for all
-pub record Located (blocks : List (List TableRow)) (key : RowKey) (place : ℕ) : Type 0 where
+record Located (blocks : List (List TableRow)) (key : RowKey) (place : ℕ) : Type 0 where
   pub block : List TableRow
   pub at : slice_get blocks place ≡ Some block
   pub rise : Rises block
@@ -235,10 +238,10 @@ block_bytes (b ∷ blocks) tail zero block sound at =
     ∙ ap (take 4096) (append_assoc (block_spelling b) (blocks_spelling blocks) tail)
     ∙ take_at (block_spelling b) (blocks_spelling blocks ++ tail) 4096 (block_length b sound.0.0) ∙ ap block_spelling same
 block_bytes (b ∷ blocks) tail (suc place) block sound at =
-    let further : 4096 * suc place ≡ 4096 * place + 4096 = omega arith in
+    let further : 4096 * suc place ≡ 4096 + 4096 * place = omega arith in
     let rest = blocks_spelling blocks ++ tail in
     ap (λ n. take 4096 (drop n ((block_spelling b ++ blocks_spelling blocks) ++ tail))) further
-    ∙ ap (λ l. take 4096 (drop (4096 * place + 4096) l)) (append_assoc (block_spelling b) (blocks_spelling blocks) tail)
+    ∙ ap (λ l. take 4096 (drop (4096 + 4096 * place) l)) (append_assoc (block_spelling b) (blocks_spelling blocks) tail)
     ∙ ap (take 4096) (sym (drop-drop (4096 * place) 4096 (block_spelling b ++ rest)))
     ∙ ap (λ l. take 4096 (drop (4096 * place) l)) (drop_at (block_spelling b) rest 4096 (block_length b sound.0.0))
     ∙ block_bytes blocks tail place block sound.1 at
@@ -284,10 +287,10 @@ parted before ((row ∷ rows) ∷ blocks) key filled rise (suc i) (suc j) d le w
 
 -- ---- what a table answers
 
-abbrev IsUpto : RowKey → List RowKey → ℕ → Type 0
+abbrev pub IsUpto : RowKey → List RowKey → ℕ → Type 0
 IsUpto key firsts upto = IsPartitionPoint (λ first. is_le (row_key_cmp first key) ≡ true) (λ first. is_le (row_key_cmp first key) ≡ false) firsts upto
 
-abbrev Parts : RowKey → List RowKey → ℕ → Type 0
+abbrev pub Parts : RowKey → List RowKey → ℕ → Type 0
 Parts key firsts upto = IsPartitionedBy (λ first. is_le (row_key_cmp first key)) firsts → IsUpto key firsts upto
 
 module _ (table : TableState) (key : RowKey) where
@@ -373,8 +376,8 @@ module _ (table : TableState) (key : RowKey) where
   pub get_held : (seen : Option (List ℕ)) (block : List ℕ) (place : ℕ) (result : Result Held TableFault) → Parts key table.firsts (suc place) → suc place ≤ length table.firsts → OnTold seen (λ bytes. block ≡ take 4096 (drop (4096 * place) bytes))
       → ((there : List TableRow) → block_at block ≡ Some there → result ≡ Ok (held_first (row_from there key) key)) → IfOk result (λ held. (rows : List TableRow) → OnTold seen (HasRows table rows) → OnTold seen (λ _. held ≡ held_in rows key))
   get_held seen block place (Err e) parts within read given = tt
-  get_held None block place (Ok held) parts within read given rows has = tt
-  get_held (Some bytes) block place (Ok held) parts within read given rows has =
+  get_held None block place (Ok held) parts within read given = λ rows has. tt
+  get_held (Some bytes) block place (Ok held) parts within read given = λ rows has.
       let f = found rows bytes block place has parts within read in
       let same : held ≡ held_first (row_from f.there key) key = same_Ok held (held_first (row_from f.there key) key) (given f.there f.read) in
       same ∙ f.held
@@ -397,8 +400,8 @@ module _ (table : TableState) (key : RowKey) where
 
   pub seek_first : (seen : Option (List ℕ)) (result : Result (Option RowKey) TableFault) → Parts key table.firsts 0 → IsThis (slice_get table.firsts 0) result → IfOk result (λ found. (rows : List TableRow) → OnTold seen (HasRows table rows) → OnTold seen (λ _. found ≡ key_of (row_from rows key)))
   seek_first seen (Err e) parts this = tt
-  seek_first None (Ok found) parts this all has = tt
-  seek_first (Some bytes) (Ok found) parts this all has = this ∙ sym (none_from all bytes has parts)
+  seek_first None (Ok it) parts this = λ all has. tt
+  seek_first (Some bytes) (Ok it) parts this = λ all has. this ∙ sym (none_from all bytes has parts)
 
   pub seek_some : (seen : Option (List ℕ)) (block : List ℕ) (place : ℕ) (found_key : RowKey) → Parts key table.firsts (suc place) → suc place ≤ length table.firsts → OnTold seen (λ bytes. block ≡ take 4096 (drop (4096 * place) bytes))
       → ((there : List TableRow) → block_at block ≡ Some there → Some found_key ≡ key_of (row_from there key)) → (rows : List TableRow) → OnTold seen (HasRows table rows) → OnTold seen (λ _. Some found_key ≡ key_of (row_from rows key))
@@ -414,18 +417,18 @@ module _ (table : TableState) (key : RowKey) where
   pub seek_rest : (seen : Option (List ℕ)) (block : List ℕ) (place : ℕ) (result : Result (Option RowKey) TableFault) → Parts key table.firsts (suc place) → suc place ≤ length table.firsts → OnTold seen (λ bytes. block ≡ take 4096 (drop (4096 * place) bytes))
       → ((there : List TableRow) → block_at block ≡ Some there → None ≡ key_of (row_from there key)) → IsThis (slice_get table.firsts (suc place)) result → IfOk result (λ found. (rows : List TableRow) → OnTold seen (HasRows table rows) → OnTold seen (λ _. found ≡ key_of (row_from rows key)))
   seek_rest seen block place (Err e) parts within read given this = tt
-  seek_rest None block place (Ok next) parts within read given this rows has = tt
-  seek_rest (Some bytes) block place (Ok next) parts within read given this rows has =
+  seek_rest None block place (Ok next) parts within read given this = λ rows has. tt
+  seek_rest (Some bytes) block place (Ok next) parts within read given this = λ rows has.
       let f = found rows bytes block place has parts within read in
-      go f.there f.none (row_from f.there key) refl (given f.there f.read)
+      none_left (row_from f.there key) next (key_of (row_from rows key)) (slice_get table.firsts (suc place)) (given f.there f.read) f.none this
     where
-      go : (there : List TableRow) → (row_from there key ≡ None → key_of (row_from rows key) ≡ slice_get table.firsts (suc place)) → (r : Option TableRow) → row_from there key ≡ r → None ≡ key_of (row_from there key) → next ≡ key_of (row_from rows key)
-      go there none None is e = this ∙ sym (none is)
-      go there none (Some row) is e = let never : ◌≡◌ {A = Option RowKey} None (Some row.key) = e ∙ ap key_of is in absurd cc
+      none_left : (r : Option TableRow) (next whole first : Option RowKey) → None ≡ key_of r → (r ≡ None → whole ≡ first) → next ≡ first → next ≡ whole
+      none_left None next whole first e none this = this ∙ sym (none refl)
+      none_left (Some row) next whole first e none this = absurd cc
 
   pub seek_damage : (seen : Option (List ℕ)) (block : List ℕ) (place : ℕ) (result : Result (Option RowKey) TableFault) → Parts key table.firsts (suc place) → suc place ≤ length table.firsts → OnTold seen (λ bytes. block ≡ take 4096 (drop (4096 * place) bytes))
       → ((there : List TableRow) → block_at block ≡ Some there → IsThis (key_of (row_from there key)) result) → OnTold seen (IsSomeTable table) → IsCopyAnswer seen result
-  seek_damage seen block place (Ok found) parts within read given told = tt
+  seek_damage seen block place (Ok it) parts within read given told = tt
   seek_damage seen block place (Err Device) parts within read given told = tt
   seek_damage seen block place (Err OutOfMemory) parts within read given told = tt
   seek_damage None block place (Err (Damaged at damage)) parts within read given told = tt
@@ -438,13 +441,13 @@ module _ (table : TableState) (key : RowKey) where
       → IfOk result (λ found. (rows : List TableRow) → OnTold seen (HasRows table rows) → OnTold seen (λ _. found ≡ key_of (row_from rows key)))
   seek_found seen block place None result parts within read given this = seek_rest seen block place result parts within read given this
   seek_found seen block place (Some k) (Err e) parts within read given this = tt
-  seek_found seen block place (Some k) (Ok found) parts within read given this rows has =
-      let same : found ≡ Some k = cc in
+  seek_found seen block place (Some k) (Ok it) parts within read given this = λ rows has.
+      let same : it ≡ Some k = cc in
       let P : Option RowKey → Type 0 = λ f. OnTold seen (λ _. f ≡ key_of (row_from rows key)) in
       subst P (sym same) (seek_some seen block place k parts within read given rows has)
 
 pub copy_plain : (seen : Option (List ℕ)) (result : Result (Option RowKey) TableFault) → IsPlain result → IsCopyAnswer seen result
-copy_plain seen (Ok found) plain = tt
+copy_plain seen (Ok it) plain = tt
 copy_plain seen (Err Device) plain = tt
 copy_plain seen (Err (Damaged at damage)) plain = absurd plain
 copy_plain seen (Err OutOfMemory) plain = tt

@@ -21,7 +21,7 @@ mod writes;
 
 pub use builder::Builder;
 pub use fault::{TableDamage, TableFault};
-pub use table::Table;
+pub use table::{Table, one_table_law};
 pub use table_row::{Held, TableRow};
 
 /// The bytes of a block.

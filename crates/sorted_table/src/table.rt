@@ -9,6 +9,7 @@ ghost use Rattle.mds_out.specs.Known.{OnTold};
 ghost use Rattle.sorted_table.specs.Answers.{IsOpenAnswer, IsLookAnswer, IsCopyAnswer, HasTableCause};
 ghost use Rattle.sorted_table.specs.Looks.{held_first, IsThis, IsPlain};
 ghost use Rattle.sorted_table.specs.Reading.{block_at};
+ghost use Rattle.sorted_table.specs.TableFiles.{HoldsOneTable, IsEitherTableOrDamaged};
 ghost use Rattle.sorted_table.specs.TableRows.{held_of, held_in, row_from, key_of};
 ghost use Rattle.sorted_table.specs.Tables.{IsReady, HoldsRows};
 ghost use Rattle.sorted_table.specs.declared.table_row.TableRow.{TableRow};
@@ -132,6 +133,13 @@ impl Table {
         }
     }
 }
+
+/// The law that makes a table's rows and `Damaged` exact: a file holds the rows of one table at most, and a damaged file
+/// holds none.
+pub fn one_table_law()
+    ensures one_table { HoldsOneTable }
+    ensures either { IsEitherTableOrDamaged }
+{}
 
 /// How many blocks begin with a key that is not above this one.
 fn blocks_upto(firsts: &[RowKey], key: &RowKey) -> usize
