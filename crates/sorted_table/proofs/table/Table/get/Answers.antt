@@ -37,4 +37,4 @@ returns-clause-answer g c =
     let Q : ℕ → Type 0 = λ n. Parts c.args.key.now table.firsts n in
     get_answer table c.args.key.now (g.D.Disk.seen c.args.disk.now table.file) c.bytes.result.now (upto - 1) c.held_at.result (subst Q next (subst P firsts c.blocks_upto-upto.ensures.point)) (omega (arith, next, c.blocks_upto-upto.ensures.bound, ap length firsts))
     (told_at (g.D.Disk.seen c.args.disk.now) c.self.inside.file table.file c.read_block.new.frame.bytes c.bytes.result.now (λ bytes. take 4096 (drop (4096 * (upto - 1)) bytes)) file c.bytes.ensures.bytes c.in_ok-read_block.ensures.bytes)
-    c.held_at.ensures.held c.requires.told c.held_at.ensures.no_fault c.held_at.ensures.no_memory
+    c.held_at.ensures.held c.requires.ready.told c.held_at.ensures.no_fault c.held_at.ensures.no_memory

@@ -46,4 +46,4 @@ returns-in-Err-clause-answer g c =
     let Q : ℕ → Type 0 = λ n. Parts c.args.key.now table.firsts n in
     seek_damage table c.args.key.now (g.D.Disk.seen c.args.disk.now table.file) c.bytes.result.now (upto - 1) (Err c.in-Err.fault) (subst Q next (subst P firsts c.blocks_upto-upto.ensures.point)) (omega (arith, next, c.blocks_upto-upto.ensures.bound, ap length firsts))
     (told_at (g.D.Disk.seen c.args.disk.now) c.self.inside.file table.file c.read_block.new.frame.bytes c.bytes.result.now (λ bytes. take 4096 (drop (4096 * (upto - 1)) bytes)) file c.bytes.ensures.bytes c.in_ok-read_block.ensures.bytes)
-    c.in-Err.ensures.found c.requires.told
+    c.in-Err.ensures.found c.requires.ready.told
