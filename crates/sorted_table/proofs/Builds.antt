@@ -81,7 +81,8 @@ full_filled full (row ∷ rows) filled = filled_left 4096 full ((row ∷ rows) �
 
 pub built_none : (b : Builder) (seen : Option (List ℕ)) → b.firsts.items ≡ [] → b.rows.items ≡ [] → b.count ≡ 0 → b.written ≡ 0 → b.number ≡ 0 → Holds b.sum [] → IsBuilt b [] seen
 built_none b seen firsts rows count written number sum = record {
-  full = []; present = [];
+  full = [];
+  present = [];
   builds = record { rows_are = refl; filled = tt; rise = tt; all = tt; firsts = firsts; spelled = rows; count = count; written = written; number = number; sum = sum; told = λ some. absurd (omega arith) };
   no_room = λ e. omega arith;
 }
@@ -128,7 +129,9 @@ block_written old new full present rows seen seen' block builds some block_is fi
 
 pub room_there : (b : Builder) (size : ℕ) (rows : List TableRow) (seen : Option (List ℕ)) → IsBuilt b rows seen → 1 ≤ size → length b.rows.items + size ≤ 4094 → HasRoom b size rows seen
 room_there b size rows seen built some fits = record {
-  full = built.full; present = built.present; builds = built.builds;
+  full = built.full;
+  present = built.present;
+  builds = built.builds;
   no_room = λ none. let full = built.no_room none in omega arith;
   fits = fits;
 }

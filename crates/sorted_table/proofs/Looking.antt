@@ -119,10 +119,13 @@ held_step row rows key r is rise rest = go r is
   where
     from_is : (r : Ordering) → row_key_cmp row.key key ≡ r → held_first (row_from (row ∷ rows) key) key ≡ held_first (cond (is_lt r) (row_from rows key) (Some row)) key
     from_is r is = ap (λ x. held_first (cond (is_lt x) (row_from rows key) (Some row)) key) is
+
     first_is : (r : Ordering) → row_key_cmp row.key key ≡ r → held_first (Some row) key ≡ cond (is_eq r) (held_of row.attr) Absent
     first_is r is = ap (λ x. cond (is_eq x) (held_of row.attr) Absent) is
+
     in_is : (r : Ordering) → row_key_cmp row.key key ≡ r → held_in (row ∷ rows) key ≡ cond (is_eq r) (held_of row.attr) (held_in rows key)
     in_is r is = ap (λ x. cond (is_eq x) (held_of row.attr) (held_in rows key)) is
+
     go : (r : Ordering) → row_key_cmp row.key key ≡ r → held_first (row_from (row ∷ rows) key) key ≡ held_in (row ∷ rows) key
     go Less is = from_is Less is ∙ rest ∙ sym (in_is Less is)
     go Equal is = from_is Equal is ∙ first_is Equal is ∙ sym (in_is Equal is)
@@ -163,9 +166,11 @@ below_next row rows next more rise = (at_end rows rise.0, later rows rise.1)
     at_end : (xs : List TableRow) → AllAbove row.key (xs ++ next ∷ more) → row_key_cmp row.key next.key ≡ Less
     at_end [] all = all.0
     at_end (x ∷ xs) all = at_end xs all.1
+
     end_of : (x : TableRow) (xs : List TableRow) → AllAbove x.key (xs ++ next ∷ more) → row_key_cmp x.key next.key ≡ Less
     end_of x [] all = all.0
     end_of x (y ∷ xs) all = end_of x xs all.1
+
     later : (xs : List TableRow) → Rises (xs ++ next ∷ more) → AllByRecursion (λ r. row_key_cmp r.key next.key ≡ Less) xs
     later [] rise = tt
     later (x ∷ xs) rise = (end_of x xs rise.0, later xs rise.1)

@@ -49,8 +49,8 @@ key_found bytes key rest fits e =
     let made : RowKey = record { dir = a.0.0; part = b.0.0; rev = c.0.0; name = d.0.0 } in
     let same : ◌≡◌ {A = RowKey × List ℕ} (made, d.0.1) (key, rest) = same_Some _ _ d.2 in
     let parts : bytes ≡ key_spelling made ++ d.0.1 =
-        dir.1 ∙ ap (λ l. to_be_bytes w64 a.0.0 ++ l) (part.1 ∙ ap (λ l. to_be_bytes w32 b.0.0 ++ l) (rev.1 ∙ ap (λ l. to_be_bytes w64 c.0.0 ++ l) name.1))
-        ∙ sym (key_whole (to_be_bytes w64 a.0.0) (to_be_bytes w32 b.0.0) (to_be_bytes w64 c.0.0) (name_spelling d.0.0) d.0.1) in
+    dir.1 ∙ ap (λ l. to_be_bytes w64 a.0.0 ++ l) (part.1 ∙ ap (λ l. to_be_bytes w32 b.0.0 ++ l) (rev.1 ∙ ap (λ l. to_be_bytes w64 c.0.0 ++ l) name.1))
+    ∙ sym (key_whole (to_be_bytes w64 a.0.0) (to_be_bytes w32 b.0.0) (to_be_bytes w64 c.0.0) (name_spelling d.0.0) d.0.1) in
     let Q : RowKey × List ℕ → Type 0 = λ x. IsKey x.0 × (bytes ≡ key_spelling x.0 ++ x.1) in
     subst Q same (record { dir = dir.0; part = part.0; rev = rev.0; name = name.0 }, parts)
 
@@ -106,8 +106,8 @@ plain_found bytes attr rest fits e =
     let made : Attr = record { dir = a.0.0; mode = b.0.0; size = c.0.0; owner = 0; mtime = 0 } in
     let test = passed (nat_lt a.0.0 (2 ^ 48) && nat_le b.0.0 4095) (made, c.0.1) (attr, rest) c.2 in
     let parts : bytes ≡ plain_spelling made ++ c.0.1 =
-        dir.1 ∙ ap (λ l. to_be_bytes w64 a.0.0 ++ l) (mode.1 ∙ ap (λ l. to_be_bytes w16 b.0.0 ++ l) size.1)
-        ∙ sym (three_whole (to_be_bytes w64 a.0.0) (to_be_bytes w16 b.0.0) (to_be_bytes w64 c.0.0) c.0.1) in
+    dir.1 ∙ ap (λ l. to_be_bytes w64 a.0.0 ++ l) (mode.1 ∙ ap (λ l. to_be_bytes w16 b.0.0 ++ l) size.1)
+    ∙ sym (three_whole (to_be_bytes w64 a.0.0) (to_be_bytes w16 b.0.0) (to_be_bytes w64 c.0.0) c.0.1) in
     let is : IsAttr made = record { dir = within_dir a.0.0 b.0.0 test.0; mode = within_mode a.0.0 b.0.0 test.0; size = size.0; owner = omega arith; mtime = omega arith } in
     let Q : Attr × List ℕ → Type 0 = λ x. IsPlain x.0 × (bytes ≡ plain_spelling x.0 ++ x.1) in
     subst Q test.1 (record { is = is; owner = refl; mtime = refl }, parts)
@@ -141,8 +141,8 @@ stamped_found bytes attr rest fits e =
     let made : Attr = record a.0.0 { owner = b.0.0; mtime = c.0.0 } in
     let test = passed (is_stamped made) (made, c.0.1) (attr, rest) c.2 in
     let parts : bytes ≡ stamped_spelling made ++ c.0.1 =
-        p.1 ∙ ap (λ l. plain_spelling a.0.0 ++ l) (owner.1 ∙ ap (λ l. to_be_bytes w32 b.0.0 ++ l) mtime.1)
-        ∙ sym (three_whole (plain_spelling a.0.0) (to_be_bytes w32 b.0.0) (to_be_bytes w64 c.0.0) c.0.1) in
+    p.1 ∙ ap (λ l. plain_spelling a.0.0 ++ l) (owner.1 ∙ ap (λ l. to_be_bytes w32 b.0.0 ++ l) mtime.1)
+    ∙ sym (three_whole (plain_spelling a.0.0) (to_be_bytes w32 b.0.0) (to_be_bytes w64 c.0.0) c.0.1) in
     let is : IsAttr made = record { dir = p.0.is.dir; mode = p.0.is.mode; size = p.0.is.size; owner = owner.0; mtime = mtime.0 } in
     let Q : Attr × List ℕ → Type 0 = λ x. IsAttr x.0 × (is_stamped x.0 ≡ true) × (bytes ≡ stamped_spelling x.0 ++ x.1) in
     subst Q test.1 (is, test.0, parts)

@@ -27,11 +27,11 @@ one_table rows others file h k =
     let whole : table_spelling h.blocks ≡ table_spelling k.blocks = sym h.bytes ∙ k.bytes in
     let number : length h.blocks ≡ length k.blocks = omega (arith, ap length whole, whole_length h.blocks h.are, whole_length k.blocks k.are) in
     let fronts : table_front h.blocks ≡ table_front k.blocks =
-        left_of (table_front h.blocks) (table_front k.blocks) (md5 (table_front h.blocks)) (md5 (table_front k.blocks)) (omega (arith, number, front_length h.blocks h.are, front_length k.blocks k.are)) whole in
+    left_of (table_front h.blocks) (table_front k.blocks) (md5 (table_front h.blocks)) (md5 (table_front k.blocks)) (omega (arith, number, front_length h.blocks h.are, front_length k.blocks k.are)) whole in
     let first = are_sound 4096 h.blocks h.are.filled h.are.all in
     let second = are_sound 4096 k.blocks k.are.filled k.are.all in
     let blocks : blocks_spelling h.blocks ≡ blocks_spelling k.blocks =
-        left_of (blocks_spelling h.blocks) (blocks_spelling k.blocks) (counts_spelling h.blocks) (counts_spelling k.blocks) (omega (arith, number, blocks_length h.blocks first, blocks_length k.blocks second)) fronts in
+    left_of (blocks_spelling h.blocks) (blocks_spelling k.blocks) (counts_spelling h.blocks) (counts_spelling k.blocks) (omega (arith, number, blocks_length h.blocks first, blocks_length k.blocks second)) fronts in
     let l = same_blocks h.blocks k.blocks [] first second (append-nil (blocks_spelling h.blocks) ∙ blocks) in
     let same : k.blocks ≡ h.blocks = l.is ∙ ap (λ (b : List (List TableRow)). h.blocks ++ b) (nothing_later l.later l.sound l.more_is) ∙ append-nil h.blocks in
     h.rows_are ∙ ap rows_in (sym same) ∙ sym k.rows_are

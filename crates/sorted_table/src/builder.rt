@@ -121,12 +121,7 @@ impl Builder {
     }
 
     // Appends a row to the present block, into which it fits.
-    fn append(
-        &mut self,
-        alloc: Global,
-        key: &RowKey,
-        attr: Option<&Attr>,
-    ) -> Result<(), AllocError>
+    fn append(&mut self, alloc: Global, key: &RowKey, attr: Option<&Attr>) -> Result<(), AllocError>
         requires { IsMarked (option_map (λ a. a.now) attr) }
         ensures file { self.new.file ≡ self.old.file }
         ensures written { self.new.written ≡ self.old.written }

@@ -47,9 +47,11 @@ impl KeyLine<'_> {
     pub(crate) fn compare(&self, key: &RowKey) -> Ordering
         ensures { result ≡ row_key_cmp (key_in self.now) key.now }
     {
-        self.dir
-            .cmp(&key.dir)
-            .then(self.part.cmp(&key.part).then(self.rev.cmp(&key.rev).then(self.name.cmp(key.name.bytes()))))
+        self.dir.cmp(&key.dir).then(
+            self.part.cmp(&key.part).then(
+                self.rev.cmp(&key.rev).then(self.name.cmp(key.name.bytes())),
+            ),
+        )
     }
 
     /// A copy of the key, whose name is one.
@@ -127,7 +129,11 @@ fn name_at(bytes: &[u8]) -> Option<(&[u8], &[u8])>
                 return None;
             }
             let (name, rest) = rest.split_at(len);
-            if is_name(name) { Some((name, rest)) } else { None }
+            if is_name(name) {
+                Some((name, rest))
+            } else {
+                None
+            }
         }
     }
 }

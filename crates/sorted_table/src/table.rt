@@ -240,11 +240,7 @@ fn found_or(
 }
 
 /// The first key of a block; `None` where there is no such block.
-fn first_of(
-    alloc: Global,
-    firsts: &[RowKey],
-    place: usize,
-) -> Result<Option<RowKey>, TableFault>
+fn first_of(alloc: Global, firsts: &[RowKey], place: usize) -> Result<Option<RowKey>, TableFault>
     ensures first { IsThis (slice_get firsts.now place) result }
     ensures plain { IsPlain result }
 {

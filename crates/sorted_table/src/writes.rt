@@ -27,12 +27,7 @@ fn begin_file<D: Disk>(disk: &mut D, file: u32, written: u32) -> Result<(), Disk
 }
 
 /// Writes bytes behind all that the file holds.
-fn write_behind<D: Disk>(
-    disk: &mut D,
-    file: u32,
-    at: u64,
-    bytes: &[u8],
-) -> Result<(), DiskFault>
+fn write_behind<D: Disk>(disk: &mut D, file: u32, at: u64, bytes: &[u8]) -> Result<(), DiskFault>
     requires known { D.sizes disk.old file ≡ Some at }
     requires short { at + length bytes.now < 2 ^ 63 }
     ensures size { OnOk result (D.sizes disk.new file ≡ Some (at + length bytes.now)) }

@@ -22,8 +22,8 @@ returns-clause-ready g c =
     (λ table. (full : List (List TableRow)) (rows : List TableRow) → Builds mid full [] rows (seen mid.file) → IsReady table (g.D.Disk.seen c.seal.new.disk) (g.D.Disk.sizes c.seal.new.disk))
     (λ table. (rows : List TableRow) → IsBuilt c.args.self rows (g.D.Disk.seen c.args.disk.now c.args.self.file) → IsReady table (g.D.Disk.seen c.seal.new.disk) (g.D.Disk.sizes c.seal.new.disk))
     (λ table given rows built.
-      let P : ℕ → Type 0 = λ file. Builds mid (closed built.full built.present) [] rows (seen file) in
-      given (closed built.full built.present) rows (subst P (sym c.write_last.ensures.file) (c.in_ok-write_last.ensures.written built.full built.present rows built.builds)))
+    let P : ℕ → Type 0 = λ file. Builds mid (closed built.full built.present) [] rows (seen file) in
+    given (closed built.full built.present) rows (subst P (sym c.write_last.ensures.file) (c.in_ok-write_last.ensures.written built.full built.present rows built.builds)))
     c.seal.ensures.ready
 
 pub returns-clause-rows : goal.returns-clause-rows
@@ -34,6 +34,6 @@ returns-clause-rows g c =
     (λ table. (full : List (List TableRow)) (rows : List TableRow) → Builds mid full [] rows (seen mid.file) → HoldsRows table (g.D.Disk.seen c.seal.new.disk) rows)
     (λ table. (rows : List TableRow) → IsBuilt c.args.self rows (g.D.Disk.seen c.args.disk.now c.args.self.file) → HoldsRows table (g.D.Disk.seen c.seal.new.disk) rows)
     (λ table given rows built.
-      let P : ℕ → Type 0 = λ file. Builds mid (closed built.full built.present) [] rows (seen file) in
-      given (closed built.full built.present) rows (subst P (sym c.write_last.ensures.file) (c.in_ok-write_last.ensures.written built.full built.present rows built.builds)))
+    let P : ℕ → Type 0 = λ file. Builds mid (closed built.full built.present) [] rows (seen file) in
+    given (closed built.full built.present) rows (subst P (sym c.write_last.ensures.file) (c.in_ok-write_last.ensures.written built.full built.present rows built.builds)))
     c.seal.ensures.rows
