@@ -1,0 +1,12 @@
+pub mod Readers
+pub mod Rows
+pub mod BlockLoops
+pub mod BlocksRead
+pub mod Rising
+pub mod Filling
+pub mod Verdicts
+pub mod Opens
+pub mod Elsewhere
+pub mod Builds
+pub mod Looking
+pub mod Unique

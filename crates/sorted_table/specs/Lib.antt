@@ -1,0 +1,11 @@
+pub mod TableRows
+pub mod Lines
+pub mod Reading
+pub mod Blocks
+pub mod TableFiles
+pub mod Checks
+pub mod Tables
+pub mod Answers
+pub mod Openings
+pub mod Building
+pub mod Looks
