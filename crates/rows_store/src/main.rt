@@ -2,6 +2,8 @@
 //! `crates/rows/README.md` says what a row is.
 #![tactic(auto)]
 
+mod tables;
+
 use row_words::{Answer, RowFault, Table, Words, print};
 use std::alloc::Global;
 use std::io;
@@ -16,6 +18,7 @@ struct Calls;
 impl Table for Calls {
     fn answer(alloc: Global, mut words: Words<'_>) -> Answer {
         match words.word()? {
+            "sorted_table" => tables::answer(alloc, words),
             _ => Err(RowFault::NotARow),
         }
     }
