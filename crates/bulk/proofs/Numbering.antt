@@ -1,14 +1,15 @@
 -- What the numbering of an object has done at each of its members.
-use Rattle.std.proofs.Common.{◌≡◌, ◌∙◌, sym, ap, refl, ℕ, ◌+◌, ◌≤◌, ◌&&◌, Bool, true, IsTrue, List, [], ◌∷◌, ◌++◌, length, length-append, append_assoc, arith}
+use Rattle.std.proofs.Common.{◌≡◌, ◌∙◌, sym, ap, refl, ℕ, ◌+◌, ◌≤◌, ◌&&◌, nat_le, Bool, true, is_some, IsTrue, List, [], ◌∷◌, ◌++◌, length, length-append, append_assoc, arith}
 use Rattle.std.specs.Prelude.{slice_set}
-use Rattle.std.proofs.lemmas.Bool.{and_parts}
+use Rattle.std.proofs.lemmas.Bool.{and_parts, leb-true}
 use Rattle.std.proofs.lemmas.List.{append-nil, length_push}
 use Rattle.std.specs.FinMap as map
 use Rattle.serde_json.specs.Data.{Data, null, boolean, number, string, array, object, Members, no_members, member}
+use Rattle.serde_json.specs.Find.{as_object}
 use Rattle.mds_base.specs.Name.{is_name}
-use Rattle.bulk.specs.declared.limits.TheConstants.{OBJECTS_MOST}
+use Rattle.bulk.specs.declared.limits.TheConstants.{OBJECTS_MOST, ENTRIES_MOST}
 use Rattle.bulk.specs.declared.object.Kind.{Kind}
-use Rattle.bulk.specs.Grammar.{is_entry, are_entries, objects_in, objects_within}
+use Rattle.bulk.specs.Grammar.{is_entry, are_entries, objects_in, objects_within, entries_in, is_tree}
 use Rattle.bulk.specs.Trees.{ObjectMap, place, kind_of, members_from, objects_of, objects_from}
 
 mutual
@@ -25,6 +26,13 @@ mutual
   length-objects_from next (member key d ms) =
       omega (arith, length-append (objects_of next d) (objects_from (next + objects_in d) ms), length-objects_of next d, length-objects_from (next + objects_in d) ms)
 
+-- a tree has few objects
+pub few_objects : (d : Data) → is_tree d ≡ true → length (objects_of 0 d) ≤ OBJECTS_MOST
+few_objects d e =
+    let limits = (and_parts (is_some (as_object d) && is_entry d) (nat_le (objects_in d) OBJECTS_MOST && nat_le (entries_in d) ENTRIES_MOST) e).1 in
+    let few = leb-true (objects_in d) OBJECTS_MOST (and_parts (nat_le (objects_in d) OBJECTS_MOST) (nat_le (entries_in d) ENTRIES_MOST) limits).0 in
+    omega (arith, length-objects_of 0 d, few)
+
 -- the members before `left` were added: what was found and what is left come to what the whole comes to
 pub record Numbered (old : List ObjectMap) (all left : Members) (found : ObjectMap) (objects : List ObjectMap) : Type 0 where
   pub named : are_entries left ≡ true
@@ -33,26 +41,6 @@ pub record Numbered (old : List ObjectMap) (all left : Members) (found : ObjectM
   pub room : length objects + objects_within left ≤ OBJECTS_MOST
   pub found_is : members_from found (length objects) left ≡ members_from map.empty (length old + 1) all
   pub within_is : within ++ objects_from (length objects) left ≡ objects_from (length old + 1) all
-
-pub begun : (old : List ObjectMap) (all : Members) (found : ObjectMap) (objects : List ObjectMap) → are_entries all ≡ true → length old + (objects_within all + 1) ≤ OBJECTS_MOST
-    → found ≡ map.empty → objects ≡ old ++ map.empty ∷ [] → Numbered old all all found objects
-begun old all found objects named room none one =
-    let long : length objects ≡ length old + 1 = ap length one ∙ length_push old map.empty in record {
-      named = named;
-      within = [];
-      stand = one;
-      room = omega (arith, long, room);
-      found_is = ap (λ m. members_from m (length objects) all) none ∙ ap (λ n. members_from map.empty n all) long;
-      within_is = ap (λ n. objects_from n all) long;
-    }
-
--- the next member is an entry, and there is room for its objects
-pub entry_of : (old : List ObjectMap) (all : Members) (key : List ℕ) (d : Data) (left : Members) (found : ObjectMap) (objects : List ObjectMap)
-    → Numbered old all (member key d left) found objects → (is_name key ≡ true) × (is_entry d ≡ true) × (length objects + objects_in d ≤ OBJECTS_MOST)
-entry_of old all key d left found objects so_far =
-    let first = and_parts (is_name key) (is_entry d && are_entries left) so_far.named in
-    let room : length objects + (objects_in d + objects_within left) ≤ OBJECTS_MOST = so_far.room in
-    (first.0, (and_parts (is_entry d) (are_entries left) first.1).0, omega (arith, room))
 
 pub numbered : (old : List ObjectMap) (all : Members) (key : List ℕ) (d : Data) (left : Members) (found found' : ObjectMap) (kind : Kind) (objects objects' : List ObjectMap)
     → Numbered old all (member key d left) found objects → kind ≡ kind_of (length objects) d → objects' ≡ objects ++ objects_of (length objects) d → found' ≡ map.insert found (place key) kind
