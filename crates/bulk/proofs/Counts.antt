@@ -1,10 +1,9 @@
 -- What the test of an object keeps at each of its members.
-use Rattle.std.proofs.Common.{◌≡◌, ◌∙◌, sym, ap, refl, ℕ, ◌+◌, ◌≤◌, ◌&&◌, nat_le, min, Bool, true, false, List, arith}
-use Rattle.serde_json.specs.Data.{Data, Members, no_members, member}
-use Rattle.mds_base.specs.Name.{is_name}
+use Rattle.std.proofs.Common.{◌≡◌, ◌+◌}
+use Rattle.serde_json.specs.Data.{Members}
 use Rattle.bulk.specs.declared.measure.Size.{Size}
-use Rattle.bulk.specs.Grammar.{is_entry, are_entries, objects_in, objects_within, entries_in, entries_within}
-use Rattle.bulk.specs.Sizes.{cap, Grown}
+use Rattle.bulk.specs.Grammar.{are_entries, objects_within, entries_within}
+use Rattle.bulk.specs.Sizes.{cap}
 
 -- the members before `left` are entries and were counted: what is left comes to what the whole comes to
 pub record Counted (start size : Size) (all left : Members) : Type 0 where
