@@ -20,7 +20,7 @@ use Rattle.records.specs.Faults.{◌>>=◌}
 use Rattle.records.specs.Reading.{byte_where, list_after}
 use Rattle.records.specs.Installs.{bitmap_spelling}
 use Rattle.records.specs.ReadingInstalls.{bit_in, has_required, is_grown, may_grow, bitmap_at}
-use Rattle.records.proofs.Decoding.{Follows, Ends, follows_here}
+use Rattle.records.proofs.Decoding.{IsBytes, Follows, Ends, follows_here}
 use Rattle.records.proofs.ToCome.{Then, Goes, goes_plainly, go_in_turn, same_goes, Listed, list_goes}
 use Rattle.records.proofs.Fields.{OneByte, byte_reads}
 
@@ -108,7 +108,7 @@ past_end [] i le = refl
 past_end (x ∷ xs) zero le = absurd (omega arith)
 past_end (x ∷ xs) (suc i) le = past_end xs i (omega arith)
 
-bit_past : (xs : List ℕ) (i : ℕ) → length xs * 8 ≤ i → bit_in xs i ≡ false
+pub bit_past : (xs : List ℕ) (i : ℕ) → length xs * 8 ≤ i → bit_in xs i ≡ false
 bit_past xs i le = ap (λ (b : ℕ). bit_at b (i % 8) == 1) (past_end xs (i / 8) (omega arith)) ∙ ap (λ (b : ℕ). b == 1) (bit_at-zero (i % 8))
 
 bit_within : (xs : List ℕ) (i : ℕ) → bit_in xs i ≡ true → i < length xs * 8
@@ -174,16 +174,16 @@ fits_next xs b rest closed root =
     let same : (i : ℕ) → i < length xs * 8 + 8 → bit_in (xs ++ b ∷ rest) i ≡ bit_in (xs ++ b ∷ []) i = λ i lt. sym (ap (λ (l : List ℕ). bit_in l i) parts) ∙ bit_left (xs ++ b ∷ []) rest i (omega (arith, long)) in
     and_from (not (length xs == 0) || (b % 2 == 1)) (is_grown (bit_in (xs ++ b ∷ [])) (length xs * 8) 8) (first xs root)
     (grown_of (bit_in (xs ++ b ∷ [])) (length xs * 8) 8 (λ i lt on. required_of (bit_in (xs ++ b ∷ [])) (length xs * 8 + i) 10 (λ j few r.
-        let n : ℕ = length xs * 8 + i in
-        let pos = pow_pos j in
-        let low = r.0 in
-        sym (same (n - 2 ^ j) (omega arith)) ∙ closed.holds n j (same n (omega arith) ∙ on) r)))
+    let n : ℕ = length xs * 8 + i in
+    let pos = pow_pos j in
+    let low = r.0 in
+    sym (same (n - 2 ^ j) (omega arith)) ∙ closed.holds n j (same n (omega arith) ∙ on) r)))
   where
     first : (xs : List ℕ) → bit_in (xs ++ b ∷ rest) 0 ≡ true → (not (length xs == 0) || (b % 2 == 1)) ≡ true
     first [] root = ap (λ (n : ℕ). n == 1) (sym (bit_at_lowest b)) ∙ root
     first (x ∷ xs) root = let some : (suc (length xs) == 0) ≡ false = grind (arith, nat_tests) in ap (λ (t : Bool). not t || (b % 2 == 1)) some
 
-abbrev AreBytes : List ℕ → Type 0
+abbrev pub AreBytes : List ℕ → Type 0
 AreBytes [] = Unit {0}
 AreBytes (b ∷ bs) = (b < 256) × AreBytes bs
 
@@ -207,10 +207,10 @@ zero_fits xs some =
     let not_first : (length xs == 0) ≡ false = grind (arith, nat_tests) in
     and_from (not (length xs == 0) || (0 % 2 == 1)) (is_grown (bit_in (xs ++ 0 ∷ [])) (length xs * 8) 8) (ap (λ (t : Bool). not t || (0 % 2 == 1)) not_first)
     (grown_of (bit_in (xs ++ 0 ∷ [])) (length xs * 8) 8 (λ i lt on.
-        let byte : (length xs * 8 + i) / 8 ≡ length xs = omega arith in
-        let none : get_or (xs ++ 0 ∷ []) ((length xs * 8 + i) / 8) 0 ≡ 0 = ap (λ (k : ℕ). get_or (xs ++ 0 ∷ []) k 0) byte ∙ get_or-append_seam xs 0 [] 0 in
-        let off : bit_in (xs ++ 0 ∷ []) (length xs * 8 + i) ≡ false = ap (λ (b : ℕ). bit_at b ((length xs * 8 + i) % 8) == 1) none ∙ ap (λ (b : ℕ). b == 1) (bit_at-zero ((length xs * 8 + i) % 8)) in
-        absurd (let both : true ≡ false = sym on ∙ off in cc)))
+    let byte : (length xs * 8 + i) / 8 ≡ length xs = omega arith in
+    let none : get_or (xs ++ 0 ∷ []) ((length xs * 8 + i) / 8) 0 ≡ 0 = ap (λ (k : ℕ). get_or (xs ++ 0 ∷ []) k 0) byte ∙ get_or-append_seam xs 0 [] 0 in
+    let off : bit_in (xs ++ 0 ∷ []) (length xs * 8 + i) ≡ false = ap (λ (b : ℕ). bit_at b ((length xs * 8 + i) % 8) == 1) none ∙ ap (λ (b : ℕ). b == 1) (bit_at-zero ((length xs * 8 + i) % 8)) in
+    absurd (let both : true ≡ false = sym on ∙ off in cc)))
 
 one_fits : may_grow [] 1 ≡ true
 unfolding is_grown has_required
@@ -220,7 +220,7 @@ good : (so_far : List ℕ) (left : ℕ) → Good so_far left
 good [] left = (1, lit< tt, one_fits)
 good (x ∷ so_far) left = (0, lit< tt, zero_fits (x ∷ so_far) (omega arith))
 
-bytes_go : (so_far : List ℕ) (left : ℕ) → Goes (Bytes so_far left) (list_after (λ so_far left. byte_where (may_grow so_far)) so_far left)
+pub bytes_go : (so_far : List ℕ) (left : ℕ) → Goes (Bytes so_far left) (list_after (λ so_far left. byte_where (may_grow so_far)) so_far left)
 bytes_go so_far left = list_goes (λ _ _. Unit {0}) (λ so_far left _. let g = good so_far left in goes_plainly (byte_reads (may_grow so_far) g.0 g.1 g.2)) (λ so_far left n text x _ _. tt) so_far left tt
 
 pub record Front (so_far : List ℕ) (left : ℕ) (text whole : List ℕ) : Type 0 where
@@ -228,7 +228,7 @@ pub record Front (so_far : List ℕ) (left : ℕ) (text whole : List ℕ) : Type
   pub count : length text ≡ left
   pub fit : Fit so_far text
 
-bytes_there : (so_far : List ℕ) (left n : ℕ) (text whole : List ℕ) → Bytes so_far left n text whole → Front so_far left text whole
+pub bytes_there : (so_far : List ℕ) (left n : ℕ) (text whole : List ℕ) → Bytes so_far left n text whole → Front so_far left text whole
 bytes_there so_far zero n text whole e = subst (λ (t : List ℕ). Front so_far zero t whole) (sym e.none) (record { whole_is = e.is ∙ sym (append-nil so_far); count = refl; fit = tt })
 bytes_there so_far (suc left) n text whole s =
     let r = bytes_there (so_far ++ s.value ∷ []) left n s.back whole s.second in
@@ -250,7 +250,7 @@ bytes_back so_far (suc left) n (b ∷ text) whole is count fit = record {
 
 -- ---- bytes and the sets that they spell
 
-abbrev set_in : List ℕ → Bits
+abbrev pub set_in : List ℕ → Bits
 set_in bytes = passing (bit_in bytes) 1024
 
 byte_at_place : (bits : Bits) (k : ℕ) → k < 128 → get_or (bitmap_spelling bits) k 0 ≡ number_of (λ i. has bits (k * 8 + i)) 8
@@ -360,12 +360,20 @@ spelled_back xs count bytes = ext_get_or 0 xs (bitmap_spelling (set_in xs)) (cou
     let f : ℕ = number_of (λ i. has (set_in xs) (k * 8 + i)) 8 in
     let small : get_or xs k 0 < 2 ^ 8 = byte_small xs k bytes in
     same_from_bits_below 8 (get_or xs k 0) f small (number_below (λ i. has (set_in xs) (k * 8 + i)) 8) (λ i low.
-        let byte : (k * 8 + i) / 8 ≡ k = omega arith in
-        let bit : (k * 8 + i) % 8 ≡ i = omega arith in
-        let here : bit_in xs (k * 8 + i) ≡ (bit_at (get_or xs k 0) i == 1) = ap (λ (n : ℕ). bit_at (get_or xs n 0) ((k * 8 + i) % 8) == 1) byte ∙ ap (λ (n : ℕ). bit_at (get_or xs k 0) n == 1) bit in
-        let set : has (set_in xs) (k * 8 + i) ≡ (bit_at (get_or xs k 0) i == 1) = has_passing (bit_in xs) 1024 (k * 8 + i) ∙ ap (λ (b : Bool). b && bit_in xs (k * 8 + i)) (lt_on (k * 8 + i) 1024 (omega arith)) ∙ here in
-        digit_of (bit_at (get_or xs k 0) i) (bit_at-lt (get_or xs k 0) i) ∙ ap (λ (b : Bool). cond b 1 0) (sym set) ∙ sym (bit_at_number (λ i. has (set_in xs) (k * 8 + i)) 8 i low))
+    let byte : (k * 8 + i) / 8 ≡ k = omega arith in
+    let bit : (k * 8 + i) % 8 ≡ i = omega arith in
+    let here : bit_in xs (k * 8 + i) ≡ (bit_at (get_or xs k 0) i == 1) = ap (λ (n : ℕ). bit_at (get_or xs n 0) ((k * 8 + i) % 8) == 1) byte ∙ ap (λ (n : ℕ). bit_at (get_or xs k 0) n == 1) bit in
+    let set : has (set_in xs) (k * 8 + i) ≡ (bit_at (get_or xs k 0) i == 1) = has_passing (bit_in xs) 1024 (k * 8 + i) ∙ ap (λ (b : Bool). b && bit_in xs (k * 8 + i)) (lt_on (k * 8 + i) 1024 (omega arith)) ∙ here in
+    digit_of (bit_at (get_or xs k 0) i) (bit_at-lt (get_or xs k 0) i) ∙ ap (λ (b : Bool). cond b 1 0) (sym set) ∙ sym (bit_at_number (λ i. has (set_in xs) (k * 8 + i)) 8 i low))
     ∙ sym (byte_at_place (set_in xs) k row))
+
+-- what was read as the bytes of a bitmap spells one
+pub front_formed : (bytes front rest : List ℕ) → IsBytes bytes → list_after (λ so_far left. byte_where (may_grow so_far)) [] 128 bytes ≡ Ok (front, rest) → (length front ≡ 128) × IsWellFormed 10 (has (set_in front))
+front_formed bytes front rest fits e =
+    let t = (bytes_go [] 128).reads.found bytes front rest fits e in
+    let f = bytes_there [] 128 0 t.text front t.spelled in
+    let closed = closed_all [] t.text (omega (arith, f.count)) none_closed f.fit in
+    (ap length f.whole_is ∙ f.count, subst (λ (l : List ℕ). IsWellFormed 10 (has (set_in l))) (sym f.whole_is) (formed_of t.text f.count closed (root_of t.text f.count f.fit)))
 
 -- ---- bitmaps
 

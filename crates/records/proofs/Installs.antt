@@ -17,7 +17,7 @@ use Rattle.records.specs.Faults.{◌>>=◌}
 use Rattle.records.specs.LeastFormats.{some_stamped_of}
 use Rattle.records.specs.Rows.{rows_spelling, IsRow, AreRising}
 use Rattle.records.specs.Installs.{bitmap_spelling, sessions_spelling, IsInstall, install_spelling}
-use Rattle.records.specs.Reading.{rows_at}
+use Rattle.records.specs.Reading.{byte_where, rows_at}
 use Rattle.records.specs.ReadingInstalls.{is_child_depth, child_at, install_at}
 use Rattle.records.proofs.Decoding.{Follows, Ends, follows_here}
 use Rattle.records.proofs.ToCome.{Then, Goes, goes_plainly, go_in_turn, same_goes}
@@ -72,8 +72,11 @@ pub record InstallText (stamped : Bool) (missing : ℕ) (text : List ℕ) (item 
 abbrev RowsEnd : Bool → (List Row → Record) → ℕ → List ℕ → Record → Type 0
 RowsEnd stamped made = Then (RowsText stamped (least_rows stamped) (2 ^ 32 - 1)) (λ rows _. Ends (made rows))
 
+abbrev ChildParts : Bool → ℕ → ℕ → ℕ → ℕ → List ℕ → Record → Type 0
+ChildParts stamped dir part depth = Then (λ _. BitmapText) (λ bitmap. Then (λ _. SessionsText) (λ sessions. RowsEnd stamped (Install dir part depth bitmap sessions)))
+
 abbrev InstallParts : Bool → ℕ → List ℕ → Record → Type 0
-InstallParts stamped = Then (λ _. NumberOf 8 1 (2 ^ 48 - 1)) (λ dir. Then (λ _. NumberOf 4 0 1023) (λ part. Then (λ _. OneByte (is_child_depth part)) (λ depth. Then (λ _. BitmapText) (λ bitmap. Then (λ _. SessionsText) (λ sessions. RowsEnd stamped (Install dir part depth bitmap sessions))))))
+InstallParts stamped = Then (λ _. NumberOf 8 1 (2 ^ 48 - 1)) (λ dir. Then (λ _. NumberOf 4 0 1023) (λ part. Then (λ _. OneByte (is_child_depth part)) (λ depth. ChildParts stamped dir part depth)))
 
 deep_enough : (part : ℕ) → part ≤ 1023 → is_child_depth part 10 ≡ true
 deep_enough part small = let below : nat_lt part 1024 ≡ true = grind (arith, nat_tests) in below
@@ -81,15 +84,19 @@ deep_enough part small = let below : nat_lt part 1024 ≡ true = grind (arith, n
 go_then : {X Y : Type 0} {G : ℕ → List ℕ → X → Type 0} {H : X → ℕ → List ℕ → Y → Type 0} {f : List ℕ → Result (X × List ℕ) Fault} {g : X → List ℕ → Result (Y × List ℕ) Fault} → Goes G f → ((x : X) → Goes (H x) (g x)) → Goes (Then G H) (λ bytes. f bytes >>= λ p. g p.0 p.1)
 go_then one next = go_in_turn one (λ text x s. (next x).reads) (λ n text x s. (next x).opens)
 
-install_parts : (stamped : Bool) → Goes (InstallParts stamped) (install_at stamped)
-unfolding install_at child_at
-install_parts stamped = go_after (number_reads 1 (2 ^ 48 - 1) (lit≤ tt) 8 (lit< tt)) (λ dir. go_in_turn (goes_plainly (number_reads 0 1023 (omega arith) 4 (lit< tt))) (λ text part s. (rest dir part s.high).reads) (λ n text part s. (rest dir part s.high).opens))
-  where
-    ends : (made : List Row → Record) → Goes (RowsEnd stamped made) (λ bytes. rows_at stamped (least_rows stamped) (2 ^ 32 - 1) bytes >>= λ rows. Ok (made rows.0, rows.1))
-    ends made = go_then (rows_read stamped (least_rows stamped) (2 ^ 32 - 1) (least_few stamped) (lit< tt)) (λ rows. goes_plainly (follows_here (made rows)))
+rows_end : (stamped : Bool) (made : List Row → Record) → Goes (RowsEnd stamped made) (λ bytes. rows_at stamped (least_rows stamped) (2 ^ 32 - 1) bytes >>= λ rows. Ok (made rows.0, rows.1))
+rows_end stamped made = go_then (rows_read stamped (least_rows stamped) (2 ^ 32 - 1) (least_few stamped) (lit< tt)) (λ rows. goes_plainly (follows_here (made rows)))
 
-    rest : (dir part : ℕ) → part ≤ 1023 → Goes (Then (λ _. OneByte (is_child_depth part)) (λ depth. Then (λ _. BitmapText) (λ bitmap. Then (λ _. SessionsText) (λ sessions. RowsEnd stamped (Install dir part depth bitmap sessions))))) _
-    rest dir part small = go_after (byte_reads (is_child_depth part) 10 (lit< tt) (deep_enough part small)) (λ depth. go_then bitmap_goes (λ bitmap. go_then sessions_goes (λ sessions. ends (Install dir part depth bitmap sessions))))
+child_goes : (stamped : Bool) (dir part depth : ℕ) → Goes (ChildParts stamped dir part depth) (child_at stamped dir part depth)
+unfolding child_at
+child_goes stamped dir part depth = go_then bitmap_goes (λ bitmap. go_then sessions_goes (λ sessions. rows_end stamped (Install dir part depth bitmap sessions)))
+
+depth_goes : (stamped : Bool) (dir part : ℕ) → part ≤ 1023 → Goes (Then (λ _. OneByte (is_child_depth part)) (ChildParts stamped dir part)) (λ bytes. byte_where (is_child_depth part) bytes >>= λ depth. child_at stamped dir part depth.0 depth.1)
+depth_goes stamped dir part small = go_after (byte_reads (is_child_depth part) 10 (lit< tt) (deep_enough part small)) (λ depth. child_goes stamped dir part depth)
+
+install_parts : (stamped : Bool) → Goes (InstallParts stamped) (install_at stamped)
+unfolding install_at
+install_parts stamped = go_after (number_reads 1 (2 ^ 48 - 1) (lit≤ tt) 8 (lit< tt)) (λ dir. go_in_turn (goes_plainly (number_reads 0 1023 (omega arith) 4 (lit< tt))) (λ text part s. (depth_goes stamped dir part s.high).reads) (λ n text part s. (depth_goes stamped dir part s.high).opens))
 
 -- a depth of a child
 pub record IsChild (part depth : ℕ) : Type 0 where

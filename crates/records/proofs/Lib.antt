@@ -6,6 +6,7 @@ pub mod Shapes
 pub mod Rows
 pub mod Loads
 pub mod Bitmaps
+pub mod BitmapBytes
 pub mod Calls
 pub mod Finals
 pub mod Sessions

@@ -1,19 +1,21 @@
 -- The readers of sessions read them exactly: finals of any call, and clients that rise.
-use Rattle.std.proofs.Common.{◌≡◌, ◌∙◌, sym, ap, subst, refl, ℕ, zero, suc, ◌+◌, ◌-◌, ◌*◌, ◌/◌, ◌%◌, ◌^◌, ◌<◌, ◌≤◌, ◌==◌, Bool, true, false, cond, List, [], ◌∷◌, ◌++◌, append_assoc, length, lit≤, lit<, arith, Option, Some, None}
+use Rattle.std.proofs.Common.{◌≡◌, ◌∙◌, sym, ap, subst, refl, ℕ, zero, suc, ◌+◌, ◌-◌, ◌*◌, ◌/◌, ◌%◌, ◌^◌, ◌<◌, ◌≤◌, ◌==◌, Bool, true, false, cond, List, [], ◌∷◌, ◌++◌, append_assoc, length, lit≤, lit<, arith, Option, Some, None, Ok}
 use Rattle.std.specs.Int.{w32, w64, to_be_bytes, bytes_high_first}
-use Rattle.std.specs.List.{flat_map, slice_get}
+use Rattle.std.specs.List.{AllByRecursion, flat_map, slice_get}
 use Rattle.std.proofs.lemmas.List.{append-nil, length-append}
 use Rattle.mds_base.proofs.Grow.{get_last}
 use Rattle.mds_base.specs.declared.reply.Final.{Final}
 use Rattle.mds_base.specs.declared.reply.Final.TheVariants.{Created, CreatedDir, Exists, Removed, Missing, IsDir, Set, Ids, Loaded, Stale, Sealed, NotEmpty, Late, Opened, Killed}
 use Rattle.mds_base.specs.declared.session.Session.{Session}
+use Rattle.records.specs.declared.fault.Stop.{Stop}
 use Rattle.records.specs.declared.kinds.TheConstants as kinds
+use Rattle.records.specs.Faults.{Fails}
 use Rattle.records.specs.FinalBytes.{IsNumbered, tag_of, number_of, final_spelling}
 use Rattle.records.specs.Installs.{session_spelling, sessions_spelling, IsSession, AreSessions}
 use Rattle.records.specs.Reading.{byte_among, final_of, is_low, sealed_at, list_after}
-use Rattle.records.specs.ReadingInstalls.{final_tags, least_with, most_with, some_final_at, last_session, client_after, session_in, session_at, sessions_at}
+use Rattle.records.specs.ReadingInstalls.{final_tags, least_with, most_with, numbered_at, some_final_at, last_session, client_after, session_in, session_at, sessions_at}
 use Rattle.records.proofs.Decoding.{Follows, Seq, Ends, follows_here, same_follows}
-use Rattle.records.proofs.ToCome.{both_follow, Then, Goes, goes_plainly, go_in_turn, same_goes, Listed, list_goes}
+use Rattle.records.proofs.ToCome.{both_follow, Then, Goes, goes_plainly, go_in_turn, same_goes, Listed, list_goes, list_step, list_fails, list_done}
 use Rattle.records.proofs.Fields.{is_among, NumberOf, number_reads}
 use Rattle.records.proofs.Shapes.{Shape, Done, Byte, Number, Name, If, Args, Ranged, value_of, joined, Of, Sound, shape_reads, AllOf, each_of}
 use Rattle.records.proofs.Calls.{in_directory, of_directory}
@@ -53,20 +55,46 @@ some_sealed a r = let m = sealed_made 1 0 0 a r in record { numbered = m.numbere
 finals_there : AllOf OfSome final_tags
 finals_there = (
   λ a r. plain Created a.0 refl tt r.0.1,
-  (λ a r. record { numbered = in_directory a.0 r.0; text_is = refl },
-  (λ a r. plain Exists a.0 refl tt r.0.1,
-  (λ a r. plain Removed a.0 refl tt r.0.1,
-  (λ a r. plain Missing a.0 refl tt r.0.1,
-  (λ a r. plain IsDir a.0 refl tt r.0.1,
-  (λ a r. plain Set a.0 refl tt r.0.1,
-  (λ a r. record { numbered = r.0; text_is = refl },
-  (λ a r. record { numbered = r.0.1; text_is = refl },
-  (λ a r. plain Stale a.0 refl tt r.0.1,
-  (some_sealed,
-  (λ a r. plain NotEmpty a.0 refl tt r.0.1,
-  (λ a r. plain Late a.0 refl tt r.0.1,
-  (λ a r. plain Opened a.0 refl tt r.0.1,
-  (λ a r. plain Killed a.0 refl tt r.0.1, tt)))))))))))))),
+  (
+    λ a r. record { numbered = in_directory a.0 r.0; text_is = refl },
+    (
+      λ a r. plain Exists a.0 refl tt r.0.1,
+      (
+        λ a r. plain Removed a.0 refl tt r.0.1,
+        (
+          λ a r. plain Missing a.0 refl tt r.0.1,
+          (
+            λ a r. plain IsDir a.0 refl tt r.0.1,
+            (
+              λ a r. plain Set a.0 refl tt r.0.1,
+              (
+                λ a r. record { numbered = r.0; text_is = refl },
+                (
+                  λ a r. record { numbered = r.0.1; text_is = refl },
+                  (
+                    λ a r. plain Stale a.0 refl tt r.0.1,
+                    (
+                      some_sealed,
+                      (
+                        λ a r. plain NotEmpty a.0 refl tt r.0.1,
+                        (
+                          λ a r. plain Late a.0 refl tt r.0.1,
+                          (
+                            λ a r. plain Opened a.0 refl tt r.0.1,
+                            (λ a r. plain Killed a.0 refl tt r.0.1, tt),
+                          ),
+                        ),
+                      ),
+                    ),
+                  ),
+                ),
+              ),
+            ),
+          ),
+        ),
+      ),
+    ),
+  ),
 )
 
 some_there : (text : List ℕ) (said : Final) → Of some_shape text said → SomeFinal text said
@@ -105,7 +133,7 @@ some_back text Opened s = record { args = (kinds.FINAL_OPENED, (0, tt)); ranged 
 some_back text Killed s = record { args = (kinds.FINAL_KILLED, (0, tt)); ranged = ((lit< tt, refl), (zeros, tt)); text_is = s.text_is; value_is = refl }
 
 some_parts : Follows (Of some_shape) some_final_at
-unfolding some_final_at sealed_at byte_among
+unfolding some_final_at numbered_at sealed_at byte_among
 some_parts = shape_reads some_shape some_sound
 
 some_reads : Follows SomeFinal some_final_at
@@ -272,3 +300,46 @@ counted_back n text sessions t =
 
 pub sessions_goes : Goes (λ _. SessionsText) sessions_at
 sessions_goes = same_goes counted_there counted_back counted_go
+
+-- ---- one session after another, as the loop reads them
+
+-- so many sessions were read, and the next client may be `least`
+pub record SessionsRead (count : ℕ) (bytes : List ℕ) (sessions : List Session) (least place : ℕ) (rest : List ℕ) : Type 0 where
+  pub least_is : least ≡ client_after (last_session sessions)
+  pub enough : least + (count - place) ≤ 65
+  pub reads : list_after session_at sessions (count - place) rest ≡ list_after session_at [] count bytes
+
+pub sessions_begin : (count : ℕ) (bytes : List ℕ) → count ≤ 64 → SessionsRead count bytes [] 1 0 bytes
+sessions_begin count bytes few = let all : count - 0 ≡ count = omega arith in record { least_is = refl; enough = omega arith; reads = ap (λ (n : ℕ). list_after session_at [] n bytes) all }
+
+-- the session that is read next
+pub next_session : (count : ℕ) (bytes : List ℕ) (sessions : List Session) (least place : ℕ) (rest : List ℕ) → SessionsRead count bytes sessions least place rest → session_in least (64 - (count - 1 - place)) rest ≡ session_at sessions (count - 1 - place) rest
+next_session count bytes sessions least place rest r = ap (λ (n : ℕ). session_in n (64 - (count - 1 - place)) rest) r.least_is
+
+sessions_left : (count : ℕ) (bytes : List ℕ) (sessions : List Session) (least place : ℕ) (rest : List ℕ) → place < count → SessionsRead count bytes sessions least place rest → list_after session_at sessions (suc (count - 1 - place)) rest ≡ list_after session_at [] count bytes
+sessions_left count bytes sessions least place rest lt r = let left : suc (count - 1 - place) ≡ count - place = omega arith in ap (λ (n : ℕ). list_after session_at sessions n rest) left ∙ r.reads
+
+pub session_fails : (count : ℕ) (bytes : List ℕ) (sessions : List Session) (least place : ℕ) (rest : List ℕ) (stop : Stop) → place < count → SessionsRead count bytes sessions least place rest → Fails stop (session_in least (64 - (count - 1 - place)) rest) → Fails stop (list_after session_at [] count bytes)
+session_fails count bytes sessions least place rest stop lt r fails =
+    let own = subst (Fails stop) (next_session count bytes sessions least place rest r) fails in
+    subst (Fails stop) (sessions_left count bytes sessions least place rest lt r) (list_fails session_at sessions (count - 1 - place) rest stop own)
+
+pub one_session : (count : ℕ) (bytes : List ℕ) (sessions : List Session) (least place : ℕ) (rest : List ℕ) (session : Session) (after : List ℕ) → place < count → SessionsRead count bytes sessions least place rest → session_in least (64 - (count - 1 - place)) rest ≡ Ok (session, after)
+    → session.client ≤ 64 - (count - 1 - place) → SessionsRead count bytes (sessions ++ session ∷ []) (session.client + 1) (place + 1) after
+one_session count bytes sessions least place rest session after lt r read few =
+    let enough = r.enough in
+    let own = sym (next_session count bytes sessions least place rest r) ∙ read in
+    let left : count - (place + 1) ≡ count - 1 - place = omega arith in
+    record {
+      least_is = ap client_after (sym (last_is sessions session));
+      enough = omega arith;
+      reads = ap (λ (n : ℕ). list_after session_at (sessions ++ session ∷ []) n after) left ∙ sym (list_step session_at sessions (count - 1 - place) rest session after own) ∙ sessions_left count bytes sessions least place rest lt r;
+    }
+
+pub all_sessions : (count : ℕ) (bytes : List ℕ) (sessions : List Session) (least place : ℕ) (rest : List ℕ) → count ≤ place → SessionsRead count bytes sessions least place rest → list_after session_at [] count bytes ≡ Ok (sessions, rest)
+all_sessions count bytes sessions least place rest le r = let none : count - place ≡ 0 = omega arith in sym r.reads ∙ ap (λ (n : ℕ). list_after session_at sessions n rest) none ∙ list_done session_at sessions rest
+
+-- sessions that rise are sessions
+pub each_session : (least : ℕ) (sessions : List Session) → AreSessions least sessions → AllByRecursion IsSession sessions
+each_session least [] are = tt
+each_session least (session ∷ sessions) are = (are.1, each_session (session.client + 1) sessions are.2)

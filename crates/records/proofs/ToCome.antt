@@ -411,7 +411,11 @@ module _ {X Y : Type 0} {G : List ℕ → X → Type 0} {H : X → List ℕ → 
         again = λ text y rest s. r.again text y rest (to_then 0 text y s);
         short = λ bytes fits e. let b = r.short bytes fits e in record { more = b.more; value = b.value; some = b.some; spelled = to_seq (length b.more) (bytes ++ b.more) b.value b.spelled };
         bad = λ bytes left fits e. let s = r.bad bytes left fits e in record {
-          front = s.front; byte = s.byte; rest = s.rest; parts = s.parts; left_is = s.left_is;
+          front = s.front;
+          byte = s.byte;
+          rest = s.rest;
+          parts = s.parts;
+          left_is = s.left_is;
           begun = record { more = s.started.more; value = s.started.value; some = s.started.some; spelled = to_seq (length s.started.more) (s.front ++ s.started.more) s.started.value s.started.spelled };
           never = λ more y k. s.never more y (to_then (length more) (s.front ++ s.byte ∷ more) y k);
         };

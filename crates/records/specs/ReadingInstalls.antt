@@ -59,11 +59,17 @@ least_with tag = if tag == kinds.FINAL_CREATED_DIR then 1 else if tag == kinds.F
 abbrev pub most_with : ℕ → ℕ
 most_with tag = if tag == kinds.FINAL_CREATED_DIR then 2 ^ 48 - 1 else if tag == kinds.FINAL_IDS then 2 ^ 45 else if tag == kinds.FINAL_LOADED then 4096 else 0
 
+-- what follows a tag, whatever the call was; a seal's is another
+unfoldable pub numbered_at : ℕ → List ℕ → Result (Final × List ℕ) Fault
+numbered_at tag bytes = do
+  number ← number_at 8 (least_with tag) (most_with tag) bytes
+  Ok (final_of tag number.0, number.1)
+
 -- the final of some call
 unfoldable pub some_final_at : List ℕ → Result (Final × List ℕ) Fault
 some_final_at bytes = do
   tag ← byte_among final_tags bytes
-  if tag.0 == kinds.FINAL_SEALED then sealed_at tag.1 else (number_at 8 (least_with tag.0) (most_with tag.0) tag.1 >>= λ number. Ok (final_of tag.0 number.0, number.1))
+  if tag.0 == kinds.FINAL_SEALED then sealed_at tag.1 else numbered_at tag.0 tag.1
 
 -- a session of a client from the least to the most
 unfoldable pub session_in : ℕ → ℕ → List ℕ → Result (Session × List ℕ) Fault

@@ -43,7 +43,12 @@ pub(crate) fn byte<'a>(bytes: &'a [u8], allowed: &[u8]) -> Result<(u8, &'a [u8])
     }
 }
 
-pub(crate) fn number(bytes: &[u8], width: usize, least: u64, most: u64) -> Result<(u64, &[u8]), Stop>
+pub(crate) fn number(
+    bytes: &[u8],
+    width: usize,
+    least: u64,
+    most: u64,
+) -> Result<(u64, &[u8]), Stop>
     requires { (width ≤ 8) × (least ≤ most) × (most < 256 ^ width) }
     ensures gives { Gives (λ x. (x.0, x.1.now)) result (number_at width least most bytes.now) }
     ensures within { IfOk result (λ x. (least ≤ x.0) × (x.0 ≤ most)) }

@@ -5,7 +5,7 @@ ghost use Rattle.bitmap.specs.Words.{passing, set_of};
 ghost use Rattle.records.specs.declared.kinds.TheConstants.{FINAL_LOADED};
 ghost use Rattle.records.specs.Faults.{Gives};
 ghost use Rattle.records.specs.Reading.{byte_where, list_after};
-ghost use Rattle.records.specs.ReadingInstalls.{bit_in, has_under, has_required, may_stand, is_grown, may_grow, bitmap_at, least_with, most_with, some_final_at, client_after, last_session, session_in, session_at, sessions_at, is_child_depth, install_at};
+ghost use Rattle.records.specs.ReadingInstalls.{bit_in, has_under, has_required, may_stand, is_grown, may_grow, bitmap_at, least_with, most_with, numbered_at, some_final_at, client_after, last_session, session_in, session_at, sessions_at, is_child_depth, child_at, install_at};
 
 use crate::boxed::BoxedBitmap;
 use crate::fault::{Fault, Stop};
@@ -34,7 +34,8 @@ fn bit(bytes: &[u8], place: usize) -> bool
     }
 }
 
-fn power(depth: usize) -> usize
+/// `2 ^ depth`.
+pub(crate) fn power(depth: usize) -> usize
     requires { depth < 32 }
     ensures { result ≡ 2 ^ depth }
 {
@@ -176,6 +177,16 @@ fn range(tag: u8) -> (u64, u64)
     }
 }
 
+// What follows a tag, whatever the call was; a seal's is another.
+#[tactic(auto, unfolding(crate::specs::ReadingInstalls::numbered_at))]
+fn numbered(tag: u8, bytes: &[u8]) -> Result<(Final, &[u8]), Stop>
+    ensures { Gives (λ x. (x.0, x.1.now)) result (numbered_at tag bytes.now) }
+{
+    let (least, most) = range(tag);
+    let (number, rest) = number(bytes, 8, least, most)?;
+    Ok((final_with(tag, number), rest))
+}
+
 // The final of some call.
 #[tactic(auto, unfolding(crate::specs::ReadingInstalls::some_final_at))]
 fn some_final(bytes: &[u8]) -> Result<(Final, &[u8]), Stop>
@@ -185,9 +196,7 @@ fn some_final(bytes: &[u8]) -> Result<(Final, &[u8]), Stop>
     if tag == FINAL_SEALED {
         return sealed(rest);
     }
-    let (least, most) = range(tag);
-    let (number, rest) = number(rest, 8, least, most)?;
-    Ok((final_with(tag, number), rest))
+    numbered(tag, rest)
 }
 
 // A session of a client from the least to the most.
