@@ -32,7 +32,7 @@ pub record FinalText (call : Call) (text : List ℕ) (said : Final) : Type 0 whe
   pub numbered : IsNumbered said
   pub text_is : text ≡ final_spelling said
 
-abbrev sealed_shape : Shape Final
+abbrev pub sealed_shape : Shape Final
 sealed_shape = Number 7 0 (2 ^ 44 - 1) (λ high. Byte is_low (λ low. Done (Sealed (low % 16) (high * 16 + low / 16))))
 
 -- what follows the tag
@@ -43,7 +43,7 @@ abbrev final_shape : Call → Shape Final
 final_shape call = Byte (is_among (tags_of call)) (tag_shape call)
 
 -- a range of numbers of eight bytes
-abbrev IsRange : ℕ → ℕ → Type 0
+abbrev pub IsRange : ℕ → ℕ → Type 0
 IsRange least most = (least ≤ most) × (most < 256 ^ 8)
 
 range_of : (a b : Bool) → IsRange (cond a 1 (cond b 2 0)) (cond a (2 ^ 48 - 1) (cond b (2 ^ 45) 0))
@@ -93,7 +93,7 @@ some_tag (Lookup dir name) change = absurd change
 some_tag (Scan dir) change = absurd change
 some_tag (Load dir rows) change = (kinds.FINAL_STALE, lit< tt, refl)
 
-sealed_sound : Sound sealed_shape
+pub sealed_sound : Sound sealed_shape
 sealed_sound = (omega arith, lit< tt, λ high _ _. ((0, lit< tt, refl), λ low _. tt))
 
 final_sound : (call : Call) → IsChange call → Sound (final_shape call)
@@ -139,7 +139,7 @@ low_bytes (suc k) high low small =
     let first : byte_at (suc k) (high * 256 + low) ≡ byte_at k high = byte_up k high low small in
     ap (λ (b : ℕ). b ∷ bytes_high_first (suc k) (high * 256 + low)) first ∙ ap (λ (t : List ℕ). byte_at k high ∷ t) rest
 
-seal_bytes : (epoch depth : ℕ) → depth ≤ 14 → to_be_bytes w64 (16 * epoch + depth) ≡ bytes_high_first 7 (epoch / 16) ++ (epoch % 16 * 16 + depth) ∷ []
+pub seal_bytes : (epoch depth : ℕ) → depth ≤ 14 → to_be_bytes w64 (16 * epoch + depth) ≡ bytes_high_first 7 (epoch / 16) ++ (epoch % 16 * 16 + depth) ∷ []
 seal_bytes epoch depth small =
     let whole : 16 * epoch + depth ≡ epoch / 16 * 256 + (epoch % 16 * 16 + depth) = omega arith in
     ap (to_be_bytes w64) whole ∙ low_bytes 7 (epoch / 16) (epoch % 16 * 16 + depth) (omega arith)
@@ -152,7 +152,7 @@ OfTag call tag = (a : Args (tag_shape call tag)) → Ranged (tag_shape call tag)
 plain : (call : Call) (said : Final) (number : ℕ) → number_of said ≡ 0 → IsNumbered said → MaySay call said → number ≤ 0 → FinalText call (tag_of said ∷ to_be_bytes w64 number) said
 plain call said number none numbered may no_number = record { reply = may; numbered = numbered; text_is = ap (λ (n : ℕ). tag_of said ∷ to_be_bytes w64 n) (let same : number ≡ 0 = omega arith in same ∙ sym none) }
 
-sealed_made : (dir part epoch : ℕ) → OfTag (Seal dir part epoch) kinds.FINAL_SEALED
+pub sealed_made : (dir part epoch : ℕ) → OfTag (Seal dir part epoch) kinds.FINAL_SEALED
 sealed_made dir part epoch a r =
     let low : a.1.0 % 16 ≤ 14 = grind (arith, nat_tests, r.1.0.1) in
     let byte = r.1.0.0 in
@@ -265,7 +265,7 @@ grabbed dir name count said numbered s =
     let range : (2 ≤ s.0) × (s.0 ≤ 2 ^ 45) = subst IsNumbered same numbered in
     read_as (Grab dir name count) (Ids s.0) said s.1 (record { args = (kinds.FINAL_IDS, (s.0, tt)); ranged = ((lit< tt, refl), (range, tt)); text_is = refl; value_is = refl })
 
-is_low_byte : (epoch depth : ℕ) → depth ≤ 14 → is_low (epoch % 16 * 16 + depth) ≡ true
+pub is_low_byte : (epoch depth : ℕ) → depth ≤ 14 → is_low (epoch % 16 * 16 + depth) ≡ true
 is_low_byte epoch depth small = let low : (epoch % 16 * 16 + depth) % 16 ≤ 14 = omega arith in grind (arith, nat_tests)
 
 sealed_read : (dir part e epoch depth : ℕ) → (depth ≤ 14) × (epoch < 2 ^ 48) → Read (Seal dir part e) (Sealed depth epoch)

@@ -14,8 +14,10 @@ mod kinds;
 mod least_format;
 mod msg;
 mod reading;
+mod reading_installs;
 mod record;
 mod writing;
+mod writing_installs;
 
 pub use boxed::{BoxedBitmap, BoxedCursor};
 pub use fault::RecordFault;

@@ -14,6 +14,7 @@ use crate::kinds::{
     RECORD_BEGIN, RECORD_END, RECORD_HEAD, RECORD_OPENED, RECORD_SERVED,
 };
 use crate::record::Record;
+use crate::writing_installs::put_install;
 use byteorder::{BigEndian, ByteOrder};
 use mds_base::{Attr, Call, Final, Name, Row, Stamp};
 use std::alloc::{AllocError, Global};
@@ -26,7 +27,7 @@ fn put_u16(out: &mut Vec<u8>, number: u16) -> Result<(), AllocError>
     out.extend_from_slice(&bytes)
 }
 
-fn put_u32(out: &mut Vec<u8>, number: u32) -> Result<(), AllocError>
+pub(crate) fn put_u32(out: &mut Vec<u8>, number: u32) -> Result<(), AllocError>
     ensures { OnOk result (out.new.items ≡ out.old.items ++ to_be_bytes w32 number) }
 {
     let mut bytes = [0; 4];
@@ -34,7 +35,7 @@ fn put_u32(out: &mut Vec<u8>, number: u32) -> Result<(), AllocError>
     out.extend_from_slice(&bytes)
 }
 
-fn put_u64(out: &mut Vec<u8>, number: u64) -> Result<(), AllocError>
+pub(crate) fn put_u64(out: &mut Vec<u8>, number: u64) -> Result<(), AllocError>
     ensures { OnOk result (out.new.items ≡ out.old.items ++ to_be_bytes w64 number) }
 {
     let mut bytes = [0; 8];
@@ -159,7 +160,7 @@ fn put_each(out: &mut Vec<u8>, stamped: bool, rows: &[Row]) -> Result<(), AllocE
 }
 
 // How many rows there are, and each of them.
-fn put_rows(out: &mut Vec<u8>, stamped: bool, rows: &[Row]) -> Result<(), AllocError>
+pub(crate) fn put_rows(out: &mut Vec<u8>, stamped: bool, rows: &[Row]) -> Result<(), AllocError>
     requires few { length rows.now < 2 ^ 32 }
     requires each { AllByRecursion (IsRow stamped) rows.now }
     ensures { OnOk result (out.new.items ≡ out.old.items ++ rows_spelling stamped rows.now) }
@@ -250,7 +251,7 @@ fn number(said: &Final) -> u64
     }
 }
 
-fn put_final(out: &mut Vec<u8>, said: &Final) -> Result<(), AllocError>
+pub(crate) fn put_final(out: &mut Vec<u8>, said: &Final) -> Result<(), AllocError>
     requires { IsNumbered said.now }
     ensures { OnOk result (out.new.items ≡ out.old.items ++ final_spelling said.now) }
 {
@@ -277,7 +278,13 @@ fn put_answered(out: &mut Vec<u8>, call: &Call, said: &Final) -> Result<(), Allo
 }
 
 // The kind of a split's begin or end, its directory, its partition and its depth.
-fn put_split(out: &mut Vec<u8>, kind: u8, dir: u64, part: u32, depth: u8) -> Result<(), AllocError>
+pub(crate) fn put_split(
+    out: &mut Vec<u8>,
+    kind: u8,
+    dir: u64,
+    part: u32,
+    depth: u8,
+) -> Result<(), AllocError>
     ensures { OnOk result (out.new.items ≡ out.old.items ++ kind ∷ split_spelling dir part depth) }
 {
     out.push(kind)?;
@@ -327,7 +334,22 @@ fn put_record(out: &mut Vec<u8>, item: &Record) -> Result<(), AllocError>
             *depth as u8,
         ),
         Record::End { dir, part, depth } => put_split(out, RECORD_END, *dir, *part, *depth as u8),
-        Record::Install { .. } => Ok(()),
+        Record::Install {
+            dir,
+            part,
+            depth,
+            bitmap,
+            sessions,
+            rows,
+        } => put_install(
+            out,
+            *dir,
+            *part,
+            *depth,
+            bitmap.get(),
+            sessions.sessions(),
+            rows.rows(),
+        ),
     }
 }
 
