@@ -3,8 +3,7 @@ use Rattle.std.proofs.Common.{◌≡◌, ◌∙◌, sym, ap, subst, refl, ℕ, �
 use Rattle.std.specs.Cmp.{eq_by_cmp_equiv}
 use Rattle.std.specs.FinMap as map
 use Rattle.std.specs.List.{AllByRecursion}
-use Rattle.std.proofs.lemmas.Bool.{and_from, and_parts, eq-eqb, leb-true, ltb-true}
-use Rattle.std.specs.Prelude.{nat_le, nat_lt}
+use Rattle.std.proofs.lemmas.Bool.{and_from, eq-eqb, leb-true}
 use Rattle.mds_base.specs.declared.ask.Ask.{Ask}
 use Rattle.mds_base.specs.declared.limits.TheConstants.{DIRECTORIES, SERVERS_MOST, SERVE_DIRECTORIES}
 use Rattle.mds_base.specs.declared.attr.Attr.{Attr}
@@ -15,7 +14,6 @@ use Rattle.mds_base.specs.declared.reply.Final.{Final}
 use Rattle.mds_base.specs.declared.reply.Final.TheVariants.{CreatedDir, Exists, Removed, Missing, IsDir, Set}
 use Rattle.mds_base.specs.declared.reply.Reply.TheVariants.{Said}
 use Rattle.mds_base.specs.declared.setup.Setup.{Setup}
-use Rattle.mds_base.specs.Calls.{is_directory}
 use Rattle.mds_base.specs.Entries.{Place, place_cmp, Entries, is_file}
 use Rattle.mds_base.specs.RowKeys.{RowMap}
 use Rattle.mds_base.proofs.Places.{places_total}
