@@ -17,8 +17,9 @@ use Rattle.records.specs.declared.record.Record.TheVariants.{Head, Served, Begin
 use Rattle.records.specs.Installs.{IsInstall, bitmap_spelling, session_spelling, sessions_spelling, install_spelling, installed_rows}
 use Rattle.records.specs.LeastFormats.{some_stamped_of}
 use Rattle.records.specs.Rows.{IsRow, attr_spelling, row_spelling, rows_spelling}
-use Rattle.records.specs.Spelling.{IsChange, IsRecord, call_spelling, final_spelling, record_spelling}
+use Rattle.records.specs.Spelling.{IsRecord, call_spelling, final_spelling, record_spelling}
 use Rattle.records.proofs.Bitmaps.{bitmap_long}
+use Rattle.records.proofs.Changes.{ChangeParts, change_parts}
 use Rattle.records.proofs.Fields.{name_short}
 use Rattle.records.proofs.Sessions.{room}
 
@@ -44,7 +45,7 @@ sessions_short (session ∷ sessions) =
     let long = length-append (session_spelling session) (flat_map session_spelling sessions) in
     omega arith
 
-call_short : (call : Call) → IsChange call → length (call_spelling call) ≤ 2 ^ 21
+call_short : (call : Call) → ChangeParts 0 call → length (call_spelling call) ≤ 2 ^ 21
 call_short (Create dir name) change = let short = (name_short name change.1).1 in omega arith
 call_short (Mkdir dir name) change = let short = (name_short name change.1).1 in omega arith
 call_short (Remove dir name) change = let short = (name_short name change.1).1 in omega arith
@@ -77,7 +78,7 @@ pub record_short : (item : Record) → IsRecord item → length (record_spelling
 record_short (Head format servers server threshold) is = omega arith
 record_short records.Opened is = omega arith
 record_short (Served client seq part call said) is =
-    let short = call_short call is.change in
+    let short = call_short call (change_parts 0 call is.change) in
     let long = length-append (call_spelling call) (final_spelling said) in
     omega arith
 record_short (Begin dir part depth) is = omega arith

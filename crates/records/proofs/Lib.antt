@@ -7,6 +7,7 @@ pub mod Rows
 pub mod Loads
 pub mod Bitmaps
 pub mod BitmapBytes
+pub mod Changes
 pub mod Calls
 pub mod Finals
 pub mod Sessions

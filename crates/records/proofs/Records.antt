@@ -14,7 +14,7 @@ use Rattle.records.specs.declared.kinds.TheConstants as kinds
 use Rattle.records.specs.declared.record.Record.{Record}
 use Rattle.records.specs.declared.record.Record.TheVariants as records
 use Rattle.records.specs.declared.record.Record.TheVariants.{Head, Served, Begin, Install, End}
-use Rattle.records.specs.Spelling.{IsChangeBut, IsHead, IsServed, IsSplit, call_spelling, final_spelling, split_spelling, install_kind, SpellsBut}
+use Rattle.records.specs.Spelling.{IsHead, IsServed, IsSplit, call_spelling, final_spelling, split_spelling, install_kind, SpellsBut}
 use Rattle.records.specs.Installs.{IsInstall, install_spelling}
 use Rattle.records.specs.LeastFormats.{some_stamped_of}
 use Rattle.records.specs.Faults.{◌>>=◌}
@@ -24,6 +24,7 @@ use Rattle.records.proofs.Decoding.{Follows, Seq, Ends, follows_here, same_follo
 use Rattle.records.proofs.ToCome.{both_follow, Waits, Opens, Reads, Then, Goes, goes_plainly, go_in_turn, same_goes, goes_by_test}
 use Rattle.records.proofs.Fields.{OneByte, is_among, among_reads, NumberOf, number_reads}
 use Rattle.records.proofs.Shapes.{Shape, Done, Byte, Number, Of, Sound, shape_reads, AllOf, each_of}
+use Rattle.records.proofs.Changes.{ChangeParts, change_parts, change_is}
 use Rattle.records.proofs.Calls.{directory, in_directory, of_directory, lt_on, lt_of, CallText, call_goes, go_after}
 use Rattle.records.proofs.Finals.{FinalText, final_reads, final_opens}
 use Rattle.records.proofs.Installs.{InstallText, install_goes}
@@ -126,7 +127,7 @@ AnsweredParts made = Then CallText (λ call _. Seq (FinalText call) (λ said. En
 answered_goes : (made : Call → Final → Record) → Goes (AnsweredParts made) (λ bytes. call_at bytes >>= λ call. final_at call.0 call.1 >>= λ said. Ok (made call.0 said.0, said.1))
 answered_goes made = go_in_turn call_goes (λ text call s. (goes_plainly (both_follow (final_reads call s.change) (λ t said f. follows_here (made call said)))).reads) (λ n text call s. answered_opens n call s.change)
   where
-    answered_opens : (n : ℕ) (call : Call) → IsChangeBut n call → Opens (λ _. Seq (FinalText call) (λ said. Ends (made call said)))
+    answered_opens : (n : ℕ) (call : Call) → ChangeParts n call → Opens (λ _. Seq (FinalText call) (λ said. Ends (made call said)))
     answered_opens n call change =
         let o = final_opens n call change in
         record { waits = record { looser = λ m n text item le s. s }; text = o.text; value = made call o.value; spelled = record { front = o.text; back = []; value = o.value; parts = sym (append-nil o.text); first = o.spelled; second = record { none = refl; is = refl } } }
@@ -155,7 +156,7 @@ served_there n text item s =
       call = c.value;
       said = f.value;
       item_is = f.second.is;
-      served = record { some_client = s.first.low; few_clients = s.first.high; from_one = q.first.low; fits = omega arith; below = omega arith; change = subst (λ (m : ℕ). IsChangeBut m c.value) nine c.first.change; reply = f.first.reply; numbered = f.first.numbered };
+      served = record { some_client = s.first.low; few_clients = s.first.high; from_one = q.first.low; fits = omega arith; below = omega arith; change = change_is (n - 9) c.value (subst (λ (m : ℕ). ChangeParts m c.value) nine c.first.change); reply = f.first.reply; numbered = f.first.numbered };
       text_is = s.parts ∙ ap (λ (u : List ℕ). u ++ s.back) s.first.text_is ∙ ap (λ (u : List ℕ). to_be_bytes w32 s.value ++ u) (q.parts ∙ ap (λ (u : List ℕ). u ++ q.back) q.first.text_is
           ∙ ap (λ (u : List ℕ). to_be_bytes w64 q.value ++ u) (p.parts ∙ ap (λ (u : List ℕ). u ++ p.back) p.first.text_is
           ∙ ap (λ (u : List ℕ). to_be_bytes w32 p.value ++ u) (c.parts ∙ ap (λ (u : List ℕ). u ++ c.back) c.first.text_is ∙ ap (λ (u : List ℕ). call_spelling c.value ++ u) end)));
@@ -189,7 +190,7 @@ served_back n text item s =
             back = final_spelling s.said;
             value = s.call;
             parts = refl;
-            first = record { change = v.change; text_is = refl };
+            first = record { change = change_parts (n - 9) s.call v.change; text_is = refl };
             second = record {
               front = final_spelling s.said;
               back = [];

@@ -7,6 +7,7 @@ use Rattle.mds_base.specs.declared.call.Call.TheVariants.{Create, Mkdir, Remove,
 use Rattle.mds_base.specs.declared.reply.Final.{Final}
 use Rattle.mds_base.specs.declared.reply.Final.TheVariants.{Created, CreatedDir, Exists, Removed, Missing, IsDir, Set, Ids, Loaded, Stale, Sealed, NotEmpty, Late, Opened, Killed}
 use Rattle.mds_base.specs.declared.reply.Reply.TheVariants.{Said}
+use Rattle.mds_base.specs.Calls.{CallOn, OnName, OnDirectory, OnPartition, asked_of, is_well_made}
 use Rattle.mds_base.specs.Name.{is_name}
 use Rattle.mds_base.specs.Entries.{Entries}
 use Rattle.mds_base.specs.declared.row.Row.{Row}
@@ -30,28 +31,38 @@ abbrev pub IsStamp : Option Stamp → Type 0
 IsStamp None = Unit {0}
 IsStamp (Some stamp) = (stamp.owner < 2 ^ 32) × (stamp.mtime < 2 ^ 64)
 
--- the rows of a load: 1 to 4096 that rise, without stamps
+-- the rows of a load rise, without stamps
 pub record IsLoad (missing : ℕ) (rows : List Row) : Type 0 where
-  pub some : 1 ≤ length rows
-  pub few : length rows ≤ 4096
   pub rising : AreRising false missing None rows
   pub each : AllByRecursion (IsRow false) rows
 
--- a call that a log keeps, as far as can be said while the last `missing` bytes of its spelling are still to come
-abbrev pub IsChangeBut : ℕ → Call → Type 0
-IsChangeBut missing (Create dir name) = IsDirectory dir × IsTrue (is_name name)
-IsChangeBut missing (Mkdir dir name) = IsDirectory dir × IsTrue (is_name name)
-IsChangeBut missing (Remove dir name) = IsDirectory dir × IsTrue (is_name name)
-IsChangeBut missing (Setattr dir name mode size stamp) = IsDirectory dir × IsTrue (is_name name) × (mode ≤ 4095) × (size < 2 ^ 64) × IsStamp stamp
-IsChangeBut missing (Lookup dir name) = ⊥
-IsChangeBut missing (Scan dir) = ⊥
-IsChangeBut missing (Grab dir name count) = IsDirectory dir × IsTrue (is_name name) × (1 ≤ count) × (count ≤ 4096)
-IsChangeBut missing (Load dir rows) = IsDirectory dir × IsLoad missing rows
-IsChangeBut missing (Link dir name id) = IsDirectory dir × IsTrue (is_name name) × IsDirectory id
-IsChangeBut missing (Seal dir part epoch) = IsDirectory dir × (part < 1024) × (epoch < 2 ^ 48)
-IsChangeBut missing (Unseal dir part epoch) = IsDirectory dir × (part < 1024) × (epoch < 2 ^ 48)
-IsChangeBut missing (Kill dir epoch) = IsDirectory dir × (epoch < 2 ^ 48)
-IsChangeBut missing (Unlink dir name id) = IsDirectory dir × IsTrue (is_name name) × IsDirectory id
+-- whether what a call is on is changed by it
+abbrev pub is_change : CallOn → Bool
+is_change (OnName dir name changes) = changes
+is_change (OnDirectory dir) = false
+is_change (OnPartition dir part) = true
+
+-- the parts of a call are what its types allow: its name, the size and the stamp that a setattr sets, the rows of a load
+abbrev pub IsNamed : CallOn → Type 0
+IsNamed (OnName dir name changes) = IsTrue (is_name name)
+IsNamed on = Unit {0}
+
+abbrev pub FitsItsTypes : Call → Type 0
+FitsItsTypes (Setattr dir name mode size stamp) = (size < 2 ^ 64) × IsStamp stamp
+FitsItsTypes call = Unit {0}
+
+abbrev pub HasItsRows : ℕ → Call → Type 0
+HasItsRows missing (Load dir rows) = IsLoad missing rows
+HasItsRows missing call = Unit {0}
+
+-- a call that a log keeps, as far as can be said while the last `missing` bytes of its spelling are still to come: a
+-- change that is well made
+pub record IsChangeBut (missing : ℕ) (call : Call) : Type 0 where
+  pub changes : IsTrue (is_change (asked_of call))
+  pub made : IsTrue (is_well_made call)
+  pub named : IsNamed (asked_of call)
+  pub fits : FitsItsTypes call
+  pub rows : HasItsRows missing call
 
 -- a call that a log keeps
 abbrev pub IsChange : Call → Type 0
