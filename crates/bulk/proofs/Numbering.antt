@@ -7,7 +7,7 @@ use Rattle.std.specs.FinMap as map
 use Rattle.serde_json.specs.Data.{Data, null, boolean, number, string, array, object, Members, no_members, member}
 use Rattle.serde_json.specs.Find.{as_object}
 use Rattle.mds_base.specs.Name.{is_name}
-use Rattle.bulk.specs.declared.limits.TheConstants.{OBJECTS_MOST, ENTRIES_MOST}
+use Rattle.mds_base.specs.declared.limits.TheConstants.{BULK_DIRECTORIES, BULK_ENTRIES}
 use Rattle.bulk.specs.declared.object.Kind.{Kind}
 use Rattle.bulk.specs.Grammar.{is_entry, are_entries, objects_in, objects_within, entries_in, is_tree}
 use Rattle.bulk.specs.Trees.{ObjectMap, place, kind_of, members_from, objects_of, objects_from}
@@ -27,10 +27,10 @@ mutual
       omega (arith, length-append (objects_of next d) (objects_from (next + objects_in d) ms), length-objects_of next d, length-objects_from (next + objects_in d) ms)
 
 -- a tree has few objects
-pub few_objects : (d : Data) → is_tree d ≡ true → length (objects_of 0 d) ≤ OBJECTS_MOST
+pub few_objects : (d : Data) → is_tree d ≡ true → length (objects_of 0 d) ≤ BULK_DIRECTORIES
 few_objects d e =
-    let limits = (and_parts (is_some (as_object d) && is_entry d) (nat_le (objects_in d) OBJECTS_MOST && nat_le (entries_in d) ENTRIES_MOST) e).1 in
-    let few = leb-true (objects_in d) OBJECTS_MOST (and_parts (nat_le (objects_in d) OBJECTS_MOST) (nat_le (entries_in d) ENTRIES_MOST) limits).0 in
+    let limits = (and_parts (is_some (as_object d) && is_entry d) (nat_le (objects_in d) BULK_DIRECTORIES && nat_le (entries_in d) BULK_ENTRIES) e).1 in
+    let few = leb-true (objects_in d) BULK_DIRECTORIES (and_parts (nat_le (objects_in d) BULK_DIRECTORIES) (nat_le (entries_in d) BULK_ENTRIES) limits).0 in
     omega (arith, length-objects_of 0 d, few)
 
 -- the members before `left` were added: what was found and what is left come to what the whole comes to
@@ -38,7 +38,7 @@ pub record Numbered (old : List ObjectMap) (all left : Members) (found : ObjectM
   pub named : are_entries left ≡ true
   pub within : List ObjectMap
   pub stand : objects ≡ old ++ map.empty ∷ within
-  pub room : length objects + objects_within left ≤ OBJECTS_MOST
+  pub room : length objects + objects_within left ≤ BULK_DIRECTORIES
   pub found_is : members_from found (length objects) left ≡ members_from map.empty (length old + 1) all
   pub within_is : within ++ objects_from (length objects) left ≡ objects_from (length old + 1) all
 
@@ -48,7 +48,7 @@ pub numbered : (old : List ObjectMap) (all : Members) (key : List ℕ) (d : Data
 numbered old all key d left found found' kind objects objects' so_far kind_is added put =
     let these = objects_of (length objects) d in
     let long : length objects' ≡ length objects + objects_in d = omega (arith, ap length added, length-append objects these, length-objects_of (length objects) d) in
-    let room : length objects + (objects_in d + objects_within left) ≤ OBJECTS_MOST = so_far.room in
+    let room : length objects + (objects_in d + objects_within left) ≤ BULK_DIRECTORIES = so_far.room in
     let found_next = map.insert found (place key) (kind_of (length objects) d) in record {
       named = (and_parts (is_entry d) (are_entries left) (and_parts (is_name key) (is_entry d && are_entries left) so_far.named).1).1;
       within = so_far.within ++ these;

@@ -5,7 +5,7 @@ use Rattle.json.specs.Json as json
 use Rattle.serde_json.specs.Data.{Data, null, boolean, number, string, array, object, Members, no_members, member}
 use Rattle.serde_json.specs.Find.{as_object, as_u64}
 use Rattle.mds_base.specs.Name.{is_name}
-use Rattle.bulk.specs.declared.limits.TheConstants.{OBJECTS_MOST, ENTRIES_MOST}
+use Rattle.mds_base.specs.declared.limits.TheConstants.{BULK_DIRECTORIES, BULK_ENTRIES}
 
 -- the text is one JSON value, whose arrays and objects nest at most this deep
 abbrev pub nests_within : ℕ → List ℕ → Bool
@@ -55,4 +55,6 @@ abbrev mutual
 
 -- a tree: an object of entries, with no more objects and members than a tree may have
 abbrev pub is_tree : Data → Bool
-is_tree d = (is_some (as_object d) && is_entry d) && (nat_le (objects_in d) OBJECTS_MOST && nat_le (entries_in d) ENTRIES_MOST)
+is_tree d =
+    (is_some (as_object d) && is_entry d)
+    && (nat_le (objects_in d) BULK_DIRECTORIES && nat_le (entries_in d) BULK_ENTRIES)

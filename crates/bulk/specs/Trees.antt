@@ -1,5 +1,6 @@
 -- Trees: the objects of a value by their numbers, each as a finite map from the places of a scan to its members.
-use Rattle.std.specs.Prelude.{ℕ, ◌+◌, List, [], ◌∷◌, ◌++◌, map, if◌then◌else◌, Option, Some, None, option_and_then, unwrap_or}
+use Rattle.std.specs.Prelude.{ℕ, ◌+◌, List, [], ◌∷◌, ◌++◌, map}
+use Rattle.std.specs.Prelude.{if◌then◌else◌, Option, Some, None, option_and_then, unwrap_or}
 use Rattle.std.specs.List.{slice_index_or}
 use Rattle.std.specs.FinMap as map
 use Rattle.serde_json.specs.Data.{Data, null, boolean, number, string, array, object, Members, no_members, member}
@@ -9,7 +10,7 @@ use Rattle.mds_base.specs.declared.attr.Attr.{Attr}
 use Rattle.mds_base.specs.declared.row.Row.{Row}
 use Rattle.mds_base.specs.Entries.{Place, place_cmp, new_file, new_directory}
 use Rattle.name_hash.specs.ScanOrder.{place_of}
-use Rattle.bulk.specs.declared.limits.TheConstants.{DEPTH_MOST}
+use Rattle.mds_base.specs.declared.limits.TheConstants.{BULK_DEPTH}
 use Rattle.bulk.specs.declared.object.Kind.{Kind}
 use Rattle.bulk.specs.declared.object.Kind.TheVariants.{File, Dir}
 use Rattle.bulk.specs.Grammar.{nests_within, is_tree, objects_in}
@@ -33,7 +34,8 @@ kind_of next (object ms) = Dir next
 -- the members that were found and these, whose objects are numbered from the next one on
 abbrev pub members_from : ObjectMap → ℕ → Members → ObjectMap
 members_from found next no_members = found
-members_from found next (member key d ms) = members_from (map.insert found (place key) (kind_of next d)) (next + objects_in d) ms
+members_from found next (member key d ms) =
+    members_from (map.insert found (place key) (kind_of next d)) (next + objects_in d) ms
 
 -- the objects of a value, numbered from the next one on: each before those in it, in the order of the members
 abbrev mutual
@@ -54,7 +56,7 @@ tree_of_data d = if is_tree d then Some (objects_of 0 d) else None
 
 -- the tree that a text is
 abbrev pub tree_of : List ℕ → Option (List ObjectMap)
-tree_of text = if nests_within DEPTH_MOST text then option_and_then tree_of_data (read text) else None
+tree_of text = if nests_within BULK_DEPTH text then option_and_then tree_of_data (read text) else None
 
 -- the attributes of a member, where the objects have the directory numbers from `first` on
 abbrev pub attr_of : ℕ → Kind → Attr

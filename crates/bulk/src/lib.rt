@@ -7,7 +7,6 @@
 #![tactic(auto)]
 
 mod fault;
-mod limits;
 mod measure;
 mod number;
 mod object;
@@ -15,5 +14,4 @@ mod reading;
 mod tree;
 
 pub use fault::TreeFault;
-pub use limits::{DEPTH_MOST, ENTRIES_MOST, OBJECTS_MOST};
 pub use tree::Tree;

@@ -2,7 +2,7 @@
 ghost use Rattle.std.specs.Prelude.{◌≡◌, ◌≤◌, ◌+◌, ◌++◌, IsTrue, IfOk, length};
 ghost use Rattle.serde_json.specs.Data.{object};
 ghost use Rattle.serde_json.specs.View.{view, members_view};
-ghost use Rattle.bulk.specs.declared.limits.TheConstants.{OBJECTS_MOST};
+ghost use Rattle.mds_base.specs.declared.limits.TheConstants.{BULK_DIRECTORIES};
 ghost use Rattle.bulk.specs.Grammar.{is_entry, are_entries, objects_in, objects_within};
 ghost use Rattle.bulk.specs.Trees.{kind_of, objects_of};
 
@@ -19,9 +19,10 @@ pub(crate) fn number(
     value: &Value,
 ) -> Result<Kind, AllocError>
     requires entry { IsTrue (is_entry (view value.now)) }
-    requires room { length objects.old.items + objects_in (view value.now) ≤ OBJECTS_MOST }
+    requires room { length objects.old.items + objects_in (view value.now) ≤ BULK_DIRECTORIES }
     ensures kind { IfOk result (λ kind. kind ≡ kind_of (length objects.old.items) (view value.now)) }
-    ensures added { IfOk result (λ _. objects.new.items ≡ objects.old.items ++ objects_of (length objects.old.items) (view value.now)) }
+    ensures added { IfOk result (λ _. objects.new.items
+        ≡ objects.old.items ++ objects_of (length objects.old.items) (view value.now)) }
 {
     match value {
         Value::Null | Value::Bool(_) | Value::String(_) | Value::Array(_) => {
@@ -41,9 +42,12 @@ fn number_members(
     members: &Map<String, Value>,
 ) -> Result<Kind, AllocError>
     requires entries { IsTrue (are_entries (members_view members.now.entries)) }
-    requires room { length objects.old.items + (objects_within (members_view members.now.entries) + 1) ≤ OBJECTS_MOST }
-    ensures kind { IfOk result (λ kind. kind ≡ kind_of (length objects.old.items) (object (members_view members.now.entries))) }
-    ensures added { IfOk result (λ _. objects.new.items ≡ objects.old.items ++ objects_of (length objects.old.items) (object (members_view members.now.entries))) }
+    requires room { length objects.old.items + (objects_within (members_view members.now.entries) + 1)
+        ≤ BULK_DIRECTORIES }
+    ensures kind { IfOk result (λ kind. kind
+        ≡ kind_of (length objects.old.items) (object (members_view members.now.entries))) }
+    ensures added { IfOk result (λ _. objects.new.items
+        ≡ objects.old.items ++ objects_of (length objects.old.items) (object (members_view members.now.entries))) }
 {
     // The object comes before those in it, and is known when they are.
     let index = objects.len();

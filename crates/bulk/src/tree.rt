@@ -14,9 +14,9 @@ use serde_json::Value;
 use std::alloc::{AllocError, Global};
 use std::marker::Model;
 
-/// A subtree that is to be loaded: its objects by their numbers, each with its members (`docs/DEFINITIONS.md`, "Bulk
-/// trees"). The number of an object is its place in the order of the depth, each before its members, and members by
-/// the bytes of their keys; the outermost object has number 0.
+/// A subtree that is to be loaded: its objects by their numbers, each with its members (`docs/DEFINITIONS.md`,
+/// "Objects of a value"). They are numbered from 0 by depth first, each object before its members, and members by the
+/// bytes of their keys.
 #[derive(Debug, Drop)]
 pub struct Tree {
     objects: Vec<Object>,
@@ -24,7 +24,7 @@ pub struct Tree {
 
 impl Model for Tree {
     ghost use Rattle.std.specs.Prelude.{List, ◌≤◌, length};
-    ghost use Rattle.bulk.specs.declared.limits.TheConstants.{OBJECTS_MOST};
+    ghost use Rattle.mds_base.specs.declared.limits.TheConstants.{BULK_DIRECTORIES};
     ghost use Rattle.std.specs.Coded.{codes};
     ghost use Rattle.std.specs.FinMap as map;
     ghost use Rattle.bulk.specs.Trees.{ObjectMap};
@@ -35,13 +35,14 @@ impl Model for Tree {
 
     ghost view = { λ a. a.objects.items };
 
-    ghost invariant = { λ a. length a.objects.items ≤ OBJECTS_MOST };
+    ghost invariant = { λ a. length a.objects.items ≤ BULK_DIRECTORIES };
 }
 
 impl Tree {
-    /// Reads a text as a tree. It is refused as `BadTree` exactly where it is outside the tree grammar, and as
-    /// `OutOfMemory` where there is no memory for it. The time grows with the length of the text, and the stack goes
-    /// no deeper than a tree may nest, whatever the text is.
+    /// Reads a text as a tree (`docs/DEFINITIONS.md`, "Tree of a text"). It is refused as `BadTree` exactly where it is
+    /// outside the tree grammar, and as `OutOfMemory` where there is no memory for it. Of a key that stands twice in
+    /// one object the last member counts. The time grows with the length of the text, and the stack with the depth of
+    /// a tree, whatever the text is.
     pub fn read(alloc: Global, text: &[u8]) -> Result<Tree, TreeFault>
         ensures ok { IfOk result (λ tree. IsUtf8 text.now × (tree_of text.now ≡ Some tree)) }
         ensures bad_tree { IsErrOf result TreeFault.BadTree → IsUtf8 text.now → tree_of text.now ≡ None }
