@@ -219,6 +219,6 @@ fn piece(alloc: Global, item: &Record) -> Result<Piece, AllocError>
     ensures { IfOk result (λ piece. piece ≡ record_spelling item.now) }
 {
     let mut body = Piece::begin(alloc)?;
-    write(alloc, item, &mut body)?;
+    write(item, &mut body)?;
     Piece::end(body)
 }

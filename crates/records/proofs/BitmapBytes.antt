@@ -1,8 +1,8 @@
 -- Bitmaps byte by byte, as they are read and written.
-use Rattle.std.proofs.Common.{◌≡◌, ◌∙◌, sym, ap, subst, refl, ℕ, zero, suc, ◌+◌, ◌-◌, ◌*◌, ◌/◌, ◌%◌, ◌^◌, ◌<◌, ◌≤◌, ◌==◌, ◌&&◌, ◌||◌, not, nat_le, nat_lt, Bool, true, false, cond, List, [], ◌∷◌, ◌++◌, append_assoc, length, get_or, take, drop, map, set, slice_index, add-one, bit_and, arith, Result, Ok, Err, inl, inr}
+use Rattle.std.proofs.Common.{◌≡◌, ◌∙◌, sym, ap, subst, refl, ℕ, zero, suc, ◌+◌, ◌-◌, ◌*◌, ◌/◌, ◌%◌, ◌^◌, ◌<◌, ◌≤◌, ◌==◌, ◌&&◌, ◌||◌, not, nat_lt, Bool, true, false, cond, List, [], ◌∷◌, ◌++◌, append_assoc, length, get_or, take, drop, map, set, slice_index, add-one, bit_and, arith, Result, Ok, Err, inl, inr}
 use Rattle.std.specs.Int.{bit_at, w64, from_le_bytes}
 use Rattle.std.specs.List.{range_with_len}
-use Rattle.std.proofs.Math.Nat.{pow-suc, pow-le-pow_right}
+use Rattle.std.proofs.Math.Nat.{pow-le-pow_right}
 use Rattle.std.proofs.Math.Path.{fun_ext}
 use Rattle.std.proofs.Math.Seq.{drop-cons, take-suc}
 use Rattle.std.proofs.lemmas.Bool.{cases_lt}
@@ -10,8 +10,7 @@ use Rattle.std.proofs.lemmas.Bool.Decides.{nat_tests}
 use Rattle.std.proofs.lemmas.List.{length-take, length-drop, length-set, get_or-take, take-take, drop_all, take_all, get_or-set_same, get_or-set_other}
 use Rattle.std.proofs.lemmas.List.FromFn.{map-range_with_len_more}
 use Rattle.std.proofs.lemmas.Nat.Bits.{bit_at-zero, bit_at_cat_low, bit_at_cat_high, shr_and_one}
-use Rattle.chains.specs.WellFormed.{IsWellFormed}
-use Rattle.bitmap.specs.Bits.{Bits, has}
+use Rattle.bitmap.specs.Bits.{Bits}
 use Rattle.bitmap.specs.BitSetLaws.{same_bits}
 use Rattle.bitmap.specs.WordLaws.{has_set_at, has_passing, number_below}
 use Rattle.bitmap.specs.Words.{bit_of, passing, set_of, number_of}
@@ -19,8 +18,8 @@ use Rattle.records.specs.declared.fault.Fault.{Fault}
 use Rattle.records.specs.declared.fault.Fault.TheVariants.{Short, Bad}
 use Rattle.records.specs.Faults.{◌>>=◌}
 use Rattle.records.specs.Reading.{byte_where, list_after}
-use Rattle.records.specs.Installs.{bitmap_byte, bitmap_spelling}
-use Rattle.records.specs.ReadingInstalls.{bit_in, has_under, has_required, may_stand, is_grown, may_grow, bitmap_at}
+use Rattle.records.specs.Installs.{bitmap_byte}
+use Rattle.records.specs.ReadingInstalls.{bit_in, has_under, has_required, may_stand, is_grown, may_grow}
 use Rattle.records.proofs.Decoding.{IsBytes}
 use Rattle.records.proofs.Bitmaps.{AreBytes}
 

@@ -1,14 +1,13 @@
 -- The reader of bitmaps reads them exactly: a byte is bad where one of its numbers lacks what it requires.
-use Rattle.std.proofs.Common.{◌≡◌, ◌∙◌, sym, ap, subst, refl, ℕ, zero, suc, ◌+◌, ◌-◌, ◌*◌, ◌/◌, ◌%◌, ◌^◌, ◌<◌, ◌≤◌, ◌==◌, ◌&&◌, ◌||◌, not, nat_le, nat_lt, Bool, true, false, cond, List, [], ◌∷◌, ◌++◌, append_assoc, length, get_or, map, lit≤, lit<, arith, Result, Ok, inl, inr, ◌⊎◌}
-use Rattle.std.specs.Prelude.{IsTrue}
+use Rattle.std.proofs.Common.{◌≡◌, ◌∙◌, sym, ap, subst, refl, ℕ, zero, suc, ◌+◌, ◌-◌, ◌*◌, ◌/◌, ◌%◌, ◌^◌, ◌<◌, ◌≤◌, ◌==◌, ◌&&◌, ◌||◌, not, nat_le, nat_lt, Bool, true, false, cond, List, [], ◌∷◌, ◌++◌, append_assoc, length, get_or, map, lit<, arith, Ok, inl, inr}
 use Rattle.std.specs.Int.{bit_at}
 use Rattle.std.specs.List.{range_with_len}
 use Rattle.std.proofs.Math.Nat.{pow-suc, pow-le-pow_right}
 use Rattle.std.proofs.Math.Path.{fun_ext}
 use Rattle.std.proofs.Math.Seq.{get_or-append_seam}
-use Rattle.std.proofs.lemmas.Bool.{cases_Bool, cases_lt, and_parts, and_from, ltb-true, lt-ltb}
+use Rattle.std.proofs.lemmas.Bool.{cases_Bool, cases_lt, and_parts, and_from}
 use Rattle.std.proofs.lemmas.Bool.Decides.{nat_tests}
-use Rattle.std.proofs.lemmas.List.{append-nil, length-append, get_or_append_left, ext_get_or, nil_from_length}
+use Rattle.std.proofs.lemmas.List.{append-nil, length-append, get_or_append_left, ext_get_or}
 use Rattle.std.proofs.lemmas.List.FromFn.{get_or-map-range_with_len, length-map-range_with_len}
 use Rattle.std.proofs.lemmas.Nat.Bits.{bit_at-zero, bit_at-lt, bit_at_lowest, same_from_bits_below}
 use Rattle.chains.specs.WellFormed.{IsWellFormed}
@@ -16,11 +15,10 @@ use Rattle.bitmap.specs.Bits.{Bits, has}
 use Rattle.bitmap.specs.BitSetLaws.{same_bits}
 use Rattle.bitmap.specs.WordLaws.{has_passing, number_below, bit_at_number}
 use Rattle.bitmap.specs.Words.{passing, number_of}
-use Rattle.records.specs.Faults.{◌>>=◌}
 use Rattle.records.specs.Reading.{byte_where, list_after}
 use Rattle.records.specs.Installs.{bitmap_spelling}
 use Rattle.records.specs.ReadingInstalls.{bit_in, has_required, is_grown, may_grow, bitmap_at}
-use Rattle.records.proofs.Decoding.{IsBytes, Follows, Ends, follows_here}
+use Rattle.records.proofs.Decoding.{IsBytes, Ends, follows_here}
 use Rattle.records.proofs.ToCome.{Then, Goes, goes_plainly, go_in_turn, same_goes, Listed, list_goes}
 use Rattle.records.proofs.Fields.{OneByte, byte_reads}
 

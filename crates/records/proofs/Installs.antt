@@ -1,5 +1,5 @@
 -- The reader of Installs reads them exactly.
-use Rattle.std.proofs.Common.{◌≡◌, ◌∙◌, sym, ap, subst, refl, ℕ, ◌+◌, ◌-◌, ◌^◌, ◌<◌, ◌≤◌, ◌==◌, ◌&&◌, ◌||◌, not, nat_le, nat_lt, Bool, true, false, cond, List, [], ◌∷◌, ◌++◌, length, lit≤, lit<, arith, Result, Ok, None}
+use Rattle.std.proofs.Common.{◌≡◌, ◌∙◌, sym, ap, subst, refl, ℕ, ◌-◌, ◌^◌, ◌<◌, ◌≤◌, ◌==◌, ◌&&◌, ◌||◌, not, nat_le, nat_lt, Bool, true, false, cond, List, [], ◌∷◌, ◌++◌, length, lit≤, lit<, arith, Result, Ok, None}
 use Rattle.std.specs.Int.{w32, w64, to_be_bytes}
 use Rattle.std.specs.List.{AllByRecursion}
 use Rattle.std.proofs.Math.Nat.{pow-le-pow_right}
@@ -19,7 +19,7 @@ use Rattle.records.specs.Rows.{rows_spelling, IsRow, AreRising}
 use Rattle.records.specs.Installs.{bitmap_spelling, sessions_spelling, IsInstall, install_spelling}
 use Rattle.records.specs.Reading.{byte_where, rows_at}
 use Rattle.records.specs.ReadingInstalls.{is_child_depth, child_at, install_at}
-use Rattle.records.proofs.Decoding.{Follows, Ends, follows_here}
+use Rattle.records.proofs.Decoding.{Ends, follows_here}
 use Rattle.records.proofs.ToCome.{Then, Goes, goes_plainly, go_in_turn, same_goes}
 use Rattle.records.proofs.Fields.{OneByte, byte_reads, NumberOf, number_reads}
 use Rattle.records.proofs.Rows.{RowsText, rows_read}

@@ -15,3 +15,4 @@ pub mod Installs
 pub mod Records
 pub mod Fronts
 pub mod Lengths
+pub mod Growing

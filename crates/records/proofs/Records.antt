@@ -15,7 +15,7 @@ use Rattle.records.specs.declared.record.Record.{Record}
 use Rattle.records.specs.declared.record.Record.TheVariants as records
 use Rattle.records.specs.declared.record.Record.TheVariants.{Head, Served, Begin, Install, End}
 use Rattle.records.specs.Spelling.{IsHead, IsServed, IsSplit, call_spelling, final_spelling, split_spelling, install_kind, SpellsBut}
-use Rattle.records.specs.Installs.{IsInstall, install_spelling}
+use Rattle.records.specs.Installs.{install_spelling}
 use Rattle.records.specs.LeastFormats.{some_stamped_of}
 use Rattle.records.specs.Faults.{◌>>=◌}
 use Rattle.records.specs.Reading.{call_at, final_at}

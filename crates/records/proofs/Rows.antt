@@ -1,5 +1,5 @@
 -- The readers of rows read them exactly, and rows that rise have different names.
-use Rattle.std.proofs.Common.{◌≡◌, ◌∙◌, sym, ap, subst, refl, ℕ, zero, suc, ◌-◌, ◌^◌, ◌<◌, ◌≤◌, ◌==◌, ◌&&◌, ◌||◌, not, Bool, true, false, cond, List, [], ◌∷◌, ◌++◌, append_assoc, length, lit≤, lit<, arith, Ok, Option, Some, None}
+use Rattle.std.proofs.Common.{◌≡◌, ◌∙◌, sym, ap, subst, refl, ℕ, zero, suc, ◌-◌, ◌^◌, ◌<◌, ◌≤◌, ◌==◌, ◌&&◌, ◌||◌, not, Bool, true, false, cond, List, [], ◌∷◌, ◌++◌, append_assoc, length, lit≤, lit<, arith, Option, Some, None}
 use Rattle.std.specs.Prelude.{IsTrue}
 use Rattle.std.specs.Int.{w32, to_be_bytes}
 use Rattle.std.specs.List.{AllByRecursion, flat_map, slice_get}
@@ -10,7 +10,6 @@ use Rattle.mds_base.proofs.Grow.{get_last}
 use Rattle.mds_base.specs.declared.row.Row.{Row}
 use Rattle.mds_base.specs.Entries.{is_stamped}
 use Rattle.mds_base.specs.Name.{is_name}
-use Rattle.records.specs.Faults.{◌>>=◌}
 use Rattle.records.specs.LeastFormats.{some_stamped_of}
 use Rattle.records.specs.Rows.{attr_spelling, row_spelling, rows_spelling, IsStamped, IsRow, last_of, comes_after, AreRising}
 use Rattle.records.specs.Reading.{rising_at, row_with, stamp_at, attr_at, must_be_stamped, row_at, list_after, rows_at}

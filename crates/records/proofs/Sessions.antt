@@ -1,5 +1,5 @@
 -- The readers of sessions read them exactly: finals of any call, and clients that rise.
-use Rattle.std.proofs.Common.{◌≡◌, ◌∙◌, sym, ap, subst, refl, ℕ, zero, suc, ◌+◌, ◌-◌, ◌*◌, ◌/◌, ◌%◌, ◌^◌, ◌<◌, ◌≤◌, ◌==◌, Bool, true, false, cond, List, [], ◌∷◌, ◌++◌, append_assoc, length, lit≤, lit<, arith, Option, Some, None, Ok}
+use Rattle.std.proofs.Common.{◌≡◌, ◌∙◌, sym, ap, subst, refl, ℕ, zero, suc, ◌+◌, ◌-◌, ◌*◌, ◌/◌, ◌%◌, ◌^◌, ◌<◌, ◌≤◌, ◌==◌, Bool, true, false, cond, List, [], ◌∷◌, ◌++◌, append_assoc, length, lit≤, lit<, arith, Option, Some, Ok}
 use Rattle.std.specs.Int.{w32, w64, to_be_bytes, bytes_high_first}
 use Rattle.std.specs.List.{AllByRecursion, flat_map, slice_get}
 use Rattle.std.proofs.lemmas.List.{append-nil, length-append}
@@ -12,12 +12,12 @@ use Rattle.records.specs.declared.kinds.TheConstants as kinds
 use Rattle.records.specs.Faults.{Fails}
 use Rattle.records.specs.FinalBytes.{IsNumbered, tag_of, number_of, final_spelling}
 use Rattle.records.specs.Installs.{session_spelling, sessions_spelling, IsSession, AreSessions}
-use Rattle.records.specs.Reading.{byte_among, final_of, is_low, sealed_at, list_after}
+use Rattle.records.specs.Reading.{byte_among, final_of, sealed_at, list_after}
 use Rattle.records.specs.ReadingInstalls.{final_tags, least_with, most_with, numbered_at, some_final_at, last_session, client_after, session_in, session_at, sessions_at}
 use Rattle.records.proofs.Decoding.{Follows, Seq, Ends, follows_here, same_follows}
 use Rattle.records.proofs.ToCome.{both_follow, Then, Goes, goes_plainly, go_in_turn, same_goes, Listed, list_goes, list_step, list_fails, list_done}
 use Rattle.records.proofs.Fields.{is_among, NumberOf, number_reads}
-use Rattle.records.proofs.Shapes.{Shape, Done, Byte, Number, Name, If, Args, Ranged, value_of, joined, Of, Sound, shape_reads, AllOf, each_of}
+use Rattle.records.proofs.Shapes.{Shape, Done, Byte, Number, If, Args, Ranged, value_of, joined, Of, Sound, shape_reads, AllOf, each_of}
 use Rattle.records.proofs.Calls.{in_directory, of_directory}
 use Rattle.records.proofs.Finals.{IsRange, sealed_shape, sealed_sound, seal_bytes, is_low_byte, sealed_made}
 

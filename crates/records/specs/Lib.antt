@@ -3,6 +3,7 @@ pub mod FinalBytes
 pub mod Rows
 pub mod Installs
 pub mod Spelling
+pub mod Writing
 pub mod Faults
 pub mod Reading
 pub mod ReadingInstalls

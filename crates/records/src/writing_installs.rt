@@ -4,12 +4,13 @@ ghost use Rattle.std.specs.List.{AllByRecursion, flat_map};
 ghost use Rattle.bitmap.specs.Bits.{has};
 ghost use Rattle.records.specs.Installs.{bitmap_byte, bitmap_spelling, session_spelling, sessions_spelling, IsSession, IsInstall, install_spelling};
 ghost use Rattle.records.specs.LeastFormats.{some_stamped_of};
+ghost use Rattle.records.specs.Writing.{OnlyGrows};
 ghost use Rattle.records.specs.Spelling.{install_kind};
 
 use crate::kinds::{RECORD_INSTALL, RECORD_INSTALL_STAMPED};
 use crate::least_format::some_stamped;
 use crate::reading_installs::{BITMAP_BYTES, power};
-use crate::writing::{put_final, put_rows, put_split, put_u32, put_u64};
+use crate::writing::{put_byte, put_final, put_rows, put_split, put_u32, put_u64};
 use bitmap::Bitmap;
 use mds_base::{Row, Session};
 use std::alloc::AllocError;
@@ -35,17 +36,19 @@ fn bitmap_byte(bitmap: &Bitmap, place: usize) -> u8
 }
 
 fn put_bitmap(out: &mut Vec<u8>, bitmap: &Bitmap) -> Result<(), AllocError>
-    ensures { OnOk result (out.new.items ≡ out.old.items ++ bitmap_spelling bitmap.now) }
+    ensures ok { OnOk result (out.new.items ≡ out.old.items ++ bitmap_spelling bitmap.now) }
+    ensures grows { OnlyGrows out.old.items out.new.items }
 {
     for place in 0..BITMAP_BYTES {
-        out.push(bitmap_byte(bitmap, place))?;
+        put_byte(out, bitmap_byte(bitmap, place))?;
     }
     Ok(())
 }
 
 fn put_session(out: &mut Vec<u8>, session: &Session) -> Result<(), AllocError>
     requires { IsSession session.now }
-    ensures { OnOk result (out.new.items ≡ out.old.items ++ session_spelling session.now) }
+    ensures ok { OnOk result (out.new.items ≡ out.old.items ++ session_spelling session.now) }
+    ensures grows { OnlyGrows out.old.items out.new.items }
 {
     put_u32(out, session.client)?;
     put_u64(out, session.seq)?;
@@ -54,7 +57,8 @@ fn put_session(out: &mut Vec<u8>, session: &Session) -> Result<(), AllocError>
 
 fn put_each_session(out: &mut Vec<u8>, sessions: &[Session]) -> Result<(), AllocError>
     requires { AllByRecursion IsSession sessions.now }
-    ensures { OnOk result (out.new.items ≡ out.old.items ++ flat_map session_spelling sessions.now) }
+    ensures ok { OnOk result (out.new.items ≡ out.old.items ++ flat_map session_spelling sessions.now) }
+    ensures grows { OnlyGrows out.old.items out.new.items }
 {
     for session in sessions {
         put_session(out, session)?;
@@ -66,9 +70,10 @@ fn put_each_session(out: &mut Vec<u8>, sessions: &[Session]) -> Result<(), Alloc
 fn put_sessions(out: &mut Vec<u8>, sessions: &[Session]) -> Result<(), AllocError>
     requires few { length sessions.now ≤ 64 }
     requires each { AllByRecursion IsSession sessions.now }
-    ensures { OnOk result (out.new.items ≡ out.old.items ++ sessions_spelling sessions.now) }
+    ensures ok { OnOk result (out.new.items ≡ out.old.items ++ sessions_spelling sessions.now) }
+    ensures grows { OnlyGrows out.old.items out.new.items }
 {
-    out.push(sessions.len() as u8)?;
+    put_byte(out, sessions.len() as u8)?;
     put_each_session(out, sessions)
 }
 
@@ -94,7 +99,8 @@ pub(crate) fn put_install(
     rows: &[Row],
 ) -> Result<(), AllocError>
     requires { IsInstall 0 dir part depth bitmap.now sessions.now rows.now }
-    ensures { OnOk result (out.new.items ≡ out.old.items ++ install_kind (some_stamped_of rows.now) ∷ install_spelling dir part depth bitmap.now sessions.now rows.now) }
+    ensures ok { OnOk result (out.new.items ≡ out.old.items ++ install_kind (some_stamped_of rows.now) ∷ install_spelling dir part depth bitmap.now sessions.now rows.now) }
+    ensures grows { OnlyGrows out.old.items out.new.items }
 {
     let stamped = some_stamped(rows);
     put_split(out, install_kind(stamped), dir, part, depth as u8)?;

@@ -1,4 +1,4 @@
-use Rattle.std.proofs.Common.{◌≡◌, ◌∙◌, sym, ap, arith}
+use Rattle.std.proofs.Common.{◌∙◌, sym, arith}
 use Rattle.records.proofs.BitmapBytes.{front_grows, bytes_begin, bytes_more, bytes_bad, bytes_short, bytes_end}
 use Rattle.records.proofs.reading_installs.bitmap_bytes.Goals as goal
 

@@ -1,4 +1,4 @@
-use Rattle.std.proofs.Common.{◌≡◌, ◌∙◌, sym, ap, arith, ℕ, true, false}
+use Rattle.std.proofs.Common.{◌≡◌, ◌∙◌, sym, ap, arith}
 use Rattle.records.specs.ReadingInstalls.{bit_in, has_required}
 use Rattle.records.proofs.BitmapBytes.{required_none, required_fails, required_more}
 use Rattle.records.proofs.reading_installs.has_required.Goals as goal

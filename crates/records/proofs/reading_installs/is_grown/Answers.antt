@@ -1,4 +1,4 @@
-use Rattle.std.proofs.Common.{◌≡◌, ◌∙◌, sym, ap, arith, ℕ, true, false}
+use Rattle.std.proofs.Common.{◌≡◌, ◌∙◌, sym, ap, arith}
 use Rattle.records.specs.ReadingInstalls.{bit_in, is_grown}
 use Rattle.records.proofs.BitmapBytes.{grown_none, grown_fails, grown_more}
 use Rattle.records.proofs.reading_installs.is_grown.Goals as goal

@@ -1,4 +1,4 @@
-use Rattle.std.proofs.Common.{◌≡◌, sym, subst, ◌+◌, List, arith}
+use Rattle.std.proofs.Common.{sym, subst, ◌+◌, List, arith}
 use Rattle.mds_base.specs.declared.session.Session.{Session}
 use Rattle.records.proofs.Sessions.{SessionsRead, sessions_begin, session_fails, one_session, all_sessions}
 use Rattle.records.proofs.reading_installs.session_list.Goals as goal

@@ -1,4 +1,4 @@
-use Rattle.std.proofs.Common.{◌≡◌, ◌∙◌, ap, ℕ, ◌==◌, arith}
+use Rattle.std.proofs.Common.{◌∙◌, ap, ℕ, ◌==◌, arith}
 use Rattle.std.specs.Int.{bit_at}
 use Rattle.records.proofs.BitmapBytes.{word_bit}
 use Rattle.records.proofs.reading_installs.word.Goals as goal

@@ -1,4 +1,4 @@
-use Rattle.std.proofs.Common.{◌≡◌, ◌∙◌, sym, ap, subst, ℕ, Bool, ◌+◌, ◌*◌, ◌<◌, ◌≤◌, ◌^◌, cond, arith}
+use Rattle.std.proofs.Common.{◌∙◌, sym, ap, ℕ, Bool, ◌+◌, ◌*◌, arith}
 use Rattle.bitmap.specs.Bits.{has}
 use Rattle.bitmap.specs.Words.{number_of}
 use Rattle.records.proofs.BitmapBytes.{worth_none, worth_more, worth_small, number_small}

@@ -1,4 +1,4 @@
-use Rattle.std.proofs.Common.{◌≡◌, ℕ, ◌+◌, ◌*◌}
+use Rattle.std.proofs.Common.{◌≡◌, ◌+◌, ◌*◌}
 use Rattle.bitmap.specs.Bits.{has}
 use Rattle.bitmap.specs.Words.{number_of}
 use Rattle.records.proofs.writing_installs.bitmap_byte.Given as goal

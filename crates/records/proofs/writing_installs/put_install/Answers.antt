@@ -3,9 +3,8 @@ use Rattle.std.specs.Int.{w32, w64, to_be_bytes}
 use Rattle.std.proofs.lemmas.Result.{on_ok_weaker}
 use Rattle.std.specs.List.{AllByRecursion}
 use Rattle.records.specs.Rows.{IsRow, rows_spelling}
-use Rattle.records.specs.Installs.{bitmap_spelling, sessions_spelling, install_spelling}
-use Rattle.records.specs.LeastFormats.{some_stamped_of}
-use Rattle.records.specs.Spelling.{install_kind, split_spelling}
+use Rattle.records.specs.Installs.{bitmap_spelling, sessions_spelling}
+use Rattle.records.specs.Spelling.{install_kind}
 use Rattle.records.proofs.Sessions.{room, each_session}
 use Rattle.records.proofs.writing_installs.put_install.Goals as goal
 
@@ -19,8 +18,8 @@ put_sessions-requires c = let few = room 1 c.args.sessions.now (omega arith) c.r
 pub put_rows-requires : goal.put_rows-requires
 put_rows-requires c = record { few = c.requires.few; each = subst (λ (b : Bool). AllByRecursion (IsRow b) c.args.rows.now) (sym c.some_stamped-stamped.ensures) c.requires.each }
 
-pub returns : goal.returns
-returns c =
+pub returns-clause-ok : goal.returns-clause-ok
+returns-clause-ok c =
     let dir : List ℕ = to_be_bytes w64 c.args.dir in
     let part : List ℕ = to_be_bytes w32 c.args.part in
     let bits : List ℕ = bitmap_spelling c.args.bitmap.now in
@@ -29,8 +28,8 @@ returns c =
     let kind : ℕ = c.install_kind.result in
     let stamped : Bool = c.some_stamped-stamped.result in
     let rows : List ℕ = rows_spelling stamped c.args.rows.now in
-    let first = c.in_ok-put_bitmap.ensures ∙ ap (λ (t : List ℕ). t ++ bits) c.in_ok-put_split.ensures in
-    let second = c.in_ok-put_sessions.ensures ∙ ap (λ (t : List ℕ). t ++ sessions) first in
+    let first = c.in_ok-put_bitmap.ensures.ok ∙ ap (λ (t : List ℕ). t ++ bits) c.in_ok-put_split.ensures.ok in
+    let second = c.in_ok-put_sessions.ensures.ok ∙ ap (λ (t : List ℕ). t ++ sessions) first in
     let kind_is = ap (λ (k : ℕ). old ++ k ∷ (dir ++ (part ++ (c.args.depth ∷ (bits ++ (sessions ++ rows)))))) c.install_kind.ensures in
     let stamped_is = ap (λ (b : Bool). old ++ install_kind b ∷ (dir ++ (part ++ (c.args.depth ∷ (bits ++ (sessions ++ rows_spelling b c.args.rows.now)))))) c.some_stamped-stamped.ensures in
-    on_ok_weaker c.put_rows.result (λ written. written ∙ ap (λ (t : List ℕ). t ++ rows) second ∙ regrouped kind c.args.depth old dir part bits sessions rows ∙ kind_is ∙ stamped_is) c.put_rows.ensures
+    on_ok_weaker c.put_rows.result (λ written. written ∙ ap (λ (t : List ℕ). t ++ rows) second ∙ regrouped kind c.args.depth old dir part bits sessions rows ∙ kind_is ∙ stamped_is) c.put_rows.ensures.ok
