@@ -17,7 +17,7 @@ LONG_RUNS = 5
 # as many calls.
 PEER, DECADE = 1.5, 12
 
-# The aim for a part: at the greatest size a round takes at most so many times the time, by the size where it goes by it.
+# The aim for a part: at the greatest size a round takes at most so many times the time, by the size if it goes by it.
 STEADY = 2
 
 # A work of `bench_parts`: its name, its sizes, how many rounds there are (of a round that goes by the size, how many

@@ -1,15 +1,14 @@
 -- What the numbering of an object has done at each of its members.
-use Rattle.std.proofs.Common.{◌≡◌, ◌∙◌, sym, ap, refl, ℕ, ◌+◌, ◌≤◌, ◌&&◌, nat_le, true, is_some, List, [], ◌∷◌, ◌++◌, length, length-append, append_assoc, arith}
+use Rattle.std.proofs.Common.{◌≡◌, ◌∙◌, sym, ap, refl, ℕ, ◌+◌, ◌≤◌, ◌&&◌, true, List, [], ◌∷◌, ◌++◌, length, length-append, append_assoc, arith}
 use Rattle.std.specs.Prelude.{slice_set}
-use Rattle.std.proofs.lemmas.Bool.{and_parts, leb-true}
+use Rattle.std.proofs.lemmas.Bool.{and_parts}
 use Rattle.std.proofs.lemmas.List.{append-nil}
 use Rattle.std.specs.FinMap as map
 use Rattle.serde_json.specs.Data.{Data, null, boolean, number, string, array, object, Members, no_members, member}
-use Rattle.serde_json.specs.Find.{as_object}
 use Rattle.mds_base.specs.Name.{is_name}
-use Rattle.mds_base.specs.declared.limits.TheConstants.{BULK_DIRECTORIES, BULK_ENTRIES}
+use Rattle.mds_base.specs.declared.limits.TheConstants.{BULK_DIRECTORIES}
 use Rattle.bulk.specs.declared.object.Kind.{Kind}
-use Rattle.bulk.specs.Grammar.{is_entry, are_entries, objects_in, objects_within, entries_in, is_tree}
+use Rattle.bulk.specs.Grammar.{is_entry, are_entries, objects_in, objects_within}
 use Rattle.bulk.specs.Trees.{ObjectMap, place, kind_of, members_from, objects_of, objects_from}
 
 mutual
@@ -25,13 +24,6 @@ mutual
   length-objects_from next no_members = refl
   length-objects_from next (member key d ms) =
       omega (arith, length-append (objects_of next d) (objects_from (next + objects_in d) ms), length-objects_of next d, length-objects_from (next + objects_in d) ms)
-
--- a tree has few objects
-pub few_objects : (d : Data) → is_tree d ≡ true → length (objects_of 0 d) ≤ BULK_DIRECTORIES
-few_objects d e =
-    let limits = (and_parts (is_some (as_object d) && is_entry d) (nat_le (objects_in d) BULK_DIRECTORIES && nat_le (entries_in d) BULK_ENTRIES) e).1 in
-    let few = leb-true (objects_in d) BULK_DIRECTORIES (and_parts (nat_le (objects_in d) BULK_DIRECTORIES) (nat_le (entries_in d) BULK_ENTRIES) limits).0 in
-    omega (arith, length-objects_of 0 d, few)
 
 -- the members before `left` were added: what was found and what is left come to what the whole comes to
 pub record Numbered (old : List ObjectMap) (all left : Members) (found : ObjectMap) (objects : List ObjectMap) : Type 0 where

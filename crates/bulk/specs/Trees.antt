@@ -1,7 +1,7 @@
 -- Trees: the objects of a value by their numbers, each as a finite map from the places of a scan to its members.
-use Rattle.std.specs.Prelude.{ℕ, ◌+◌, List, [], ◌∷◌, ◌++◌, map}
+use Rattle.std.specs.Prelude.{ℕ, ◌+◌, ◌≤◌, List, [], ◌∷◌, ◌++◌, map, length}
 use Rattle.std.specs.Prelude.{if◌then◌else◌, Option, Some, None, option_and_then, unwrap_or}
-use Rattle.std.specs.List.{slice_index_or}
+use Rattle.std.specs.List.{slice_index_or, All}
 use Rattle.std.specs.FinMap as map
 use Rattle.serde_json.specs.Data.{Data, null, boolean, number, string, array, object, Members, no_members, member}
 use Rattle.serde_json.specs.Find.{as_u64}
@@ -10,7 +10,7 @@ use Rattle.mds_base.specs.declared.attr.Attr.{Attr}
 use Rattle.mds_base.specs.declared.row.Row.{Row}
 use Rattle.mds_base.specs.Entries.{Place, place_cmp, new_file, new_directory}
 use Rattle.name_hash.specs.ScanOrder.{place_of}
-use Rattle.mds_base.specs.declared.limits.TheConstants.{BULK_DEPTH}
+use Rattle.mds_base.specs.declared.limits.TheConstants.{BULK_DEPTH, BULK_DIRECTORIES, BULK_ENTRIES}
 use Rattle.bulk.specs.declared.object.Kind.{Kind}
 use Rattle.bulk.specs.declared.object.Kind.TheVariants.{File, Dir}
 use Rattle.bulk.specs.Grammar.{nests_within, is_tree, objects_in}
@@ -18,6 +18,16 @@ use Rattle.bulk.specs.Grammar.{nests_within, is_tree, objects_in}
 -- the members of an object, in the order in which a scan gives their names
 abbrev pub ObjectMap : Type 0
 ObjectMap = map.FinMap place_cmp Kind
+
+-- an object has at most so many members
+abbrev pub HasAtMost : ℕ → ObjectMap → Type 0
+HasAtMost most members = map.len members ≤ most
+
+-- what a grab and loads of a tree may count on: its objects are some and not too many, nor are the members of each
+pub record IsBounded (tree : List ObjectMap) : Type 0 where
+  pub some : 1 ≤ length tree
+  pub few : length tree ≤ BULK_DIRECTORIES
+  pub small : All (HasAtMost BULK_ENTRIES) tree
 
 abbrev pub place : List ℕ → Place
 place name = (place_of name, name)

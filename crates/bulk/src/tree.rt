@@ -1,6 +1,7 @@
 ghost use Rattle.std.specs.Prelude.{◌≡◌, ◌≤◌, ◌<◌, ◌^◌, IfOk, IsErrOf, Some, None, IsTrue, length};
 ghost use Rattle.std.specs.Str.{IsUtf8};
 ghost use Rattle.serde_json.specs.View.{view};
+ghost use Rattle.mds_base.specs.declared.limits.TheConstants.{BULK_DIRECTORIES, BULK_ENTRIES};
 ghost use Rattle.bulk.specs.Grammar.{is_tree};
 ghost use Rattle.bulk.specs.Trees.{tree_of, tree_of_data, objects_of, rows_of};
 
@@ -23,11 +24,10 @@ pub struct Tree {
 }
 
 impl Model for Tree {
-    ghost use Rattle.std.specs.Prelude.{List, ◌≤◌, length};
-    ghost use Rattle.mds_base.specs.declared.limits.TheConstants.{BULK_DIRECTORIES};
+    ghost use Rattle.std.specs.Prelude.{List};
     ghost use Rattle.std.specs.Coded.{codes};
     ghost use Rattle.std.specs.FinMap as map;
-    ghost use Rattle.bulk.specs.Trees.{ObjectMap};
+    ghost use Rattle.bulk.specs.Trees.{ObjectMap, IsBounded};
 
     ghost Value = { List ObjectMap };
 
@@ -35,7 +35,7 @@ impl Model for Tree {
 
     ghost view = { λ a. a.objects.items };
 
-    ghost invariant = { λ a. length a.objects.items ≤ BULK_DIRECTORIES };
+    ghost invariant = { λ a. IsBounded a.objects.items };
 }
 
 impl Tree {
@@ -84,20 +84,22 @@ impl Tree {
         Ok(objects)
     }
 
-    /// How many objects the tree has, from 1 to 4096. It takes no memory.
+    /// How many objects the tree has, from 1 to 4096, which one grab gives the numbers for. It takes no memory.
     pub fn dirs(&self) -> u32
-        ensures { result ≡ length self.now }
+        ensures count { result ≡ length self.now }
+        ensures few { (1 ≤ result) × (result ≤ BULK_DIRECTORIES) }
     {
         self.objects.len() as u32
     }
 
     /// The rows of the object of this number, in the scan order: files with their sizes, and directories with the
-    /// numbers that they get where the tree's objects have the numbers from `first` on. It is refused only where there
-    /// is no memory for them.
+    /// numbers that they get where the tree's objects have the numbers from `first` on. There are at most 4096, as many
+    /// as a load may have. It is refused only where there is no memory for them.
     pub fn rows_of(&self, alloc: Global, index: u32, first: u64) -> Result<RowList, AllocError>
         requires index { index < length self.now }
         requires first { first ≤ 2 ^ 45 }
-        ensures { IfOk result (λ rows. rows ≡ rows_of self.now index first) }
+        ensures rows { IfOk result (λ rows. rows ≡ rows_of self.now index first) }
+        ensures few { IfOk result (λ rows. length rows ≤ BULK_ENTRIES) }
     {
         self.objects[index as usize].rows(alloc, first)
     }
