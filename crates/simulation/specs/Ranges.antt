@@ -10,6 +10,7 @@ use Rattle.node_store.specs.Serve.{IsMessage, IsWellMade}
 use Rattle.node_store.specs.Store.{Store}
 use Rattle.mds_base.specs.Lists.{Each}
 use Rattle.mds_base.specs.Setups.{IsSetup}
+use Rattle.simulation.specs.Shows.{SimulationV}
 
 -- an open call is numbered and well made, and its attempts are no more than the events
 pub record IsOpenCall (count seq : ℕ) (pending : Pending) : Type 0 where
@@ -32,13 +33,26 @@ pub record IsSent (servers : ℕ) (msg : Msg) : Type 0 where
   pub there : MatchOption (server_of_msg msg) (Unit {0}) (λ server. server < servers)
   pub made : IsMessage msg
 
+-- each server on its disk has its place for number, and the setup of all
+pub record AreStores {X : Type 0} (setup : Setup) (stores : List (Store X)) : Type 0 where
+  pub all : length stores ≡ setup.servers
+  pub each : Each stores (λ s store. (store.server ≡ s) × (store.setup ≡ setup))
+
+pub record AreSeats (setup : Setup) (count : ℕ) (clients : List ClientV) : Type 0 where
+  pub all : length clients ≡ setup.clients
+  pub each : Each clients (IsSeat setup count)
+
+abbrev pub AreSent : Setup → List Msg → Type 0
+AreSent setup sent = Each sent (λ k msg. IsSent setup.servers msg)
+
 -- the parts that calls of a simulation read are within their ranges
 pub record AreRanges {X : Type 0} (setup : Setup) (now count : ℕ) (stores : List (Store X)) (clients : List ClientV) (sent : List Msg) : Type 0 where
   pub setup' : IsSetup setup
   pub moment : now < MOMENTS
   pub events : count ≤ EVENTS
-  pub stores' : length stores ≡ setup.servers
-  pub numbers : Each stores (λ s store. (store.server ≡ s) × (store.setup ≡ setup))
-  pub clients' : length clients ≡ setup.clients
-  pub seats : Each clients (IsSeat setup count)
-  pub sent' : Each sent (λ k msg. IsSent setup.servers msg)
+  pub stores' : AreStores setup stores
+  pub clients' : AreSeats setup count clients
+  pub sent' : AreSent setup sent
+
+abbrev pub InRange : {X : Type 0} → SimulationV X → Type 0
+InRange sim = AreRanges sim.setup sim.moment sim.count sim.stores sim.clients sim.sent
