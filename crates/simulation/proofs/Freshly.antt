@@ -24,19 +24,23 @@ fresh_ranges seen images setup disks stores clients is count up new = record {
   setup' = is;
   moment = omega arith;
   events = omega arith;
-  stores' = paired_length (IsUpOn seen images setup) 0 disks stores up ∙ count;
-  numbers = record {
-    at = λ s store at.
-        let n = paired_length (IsUpOn seen images setup) 0 disks stores up in
-        let w = within stores s store at in
-        let g = get_below disks s (omega arith) in
-        let u : IsUpOn seen images setup s g.0 store = paired_at (IsUpOn seen images setup) disks stores up s g.0 store g.1 at in
-        (u.server, u.setup');
+  stores' = record {
+    all = paired_length (IsUpOn seen images setup) 0 disks stores up ∙ count;
+    each = record {
+      at = λ s store at.
+          let n = paired_length (IsUpOn seen images setup) 0 disks stores up in
+          let w = within stores s store at in
+          let g = get_below disks s (omega arith) in
+          let u : IsUpOn seen images setup s g.0 store = paired_at (IsUpOn seen images setup) disks stores up s g.0 store g.1 at in
+          (u.server, u.setup');
+    };
   };
-  clients' = ap length new ∙ length-map-range_with_len (λ k. new_client k setup) 1 setup.clients;
-  seats = record {
-    at = λ k client at.
-        subst (IsSeat setup 0 k) (ranged (λ k. new_client k setup) 1 setup.clients k client (ap (λ cs. slice_get cs k) (sym new) ∙ at)) (new_seat setup k);
+  clients' = record {
+    all = ap length new ∙ length-map-range_with_len (λ k. new_client k setup) 1 setup.clients;
+    each = record {
+      at = λ k client at.
+          subst (IsSeat setup 0 k) (ranged (λ k. new_client k setup) 1 setup.clients k client (ap (λ cs. slice_get cs k) (sym new) ∙ at)) (new_seat setup k);
+    };
   };
   sent' = record { at = λ k msg at. cc };
 }

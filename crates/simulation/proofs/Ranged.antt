@@ -2,8 +2,10 @@
 use Rattle.std.proofs.Common.{◌≡◌, ◌∙◌, sym, ap, subst, refl, ℕ, ◌+◌, ◌<◌, ◌≤◌, ◌^◌, ◌%◌, Bool, true, false, List, [], ◌∷◌, ◌++◌, Option, Some, None, arith}
 use Rattle.std.specs.Prelude.{slice_set}
 use Rattle.std.specs.List.{slice_get}
+use Rattle.std.proofs.lemmas.List.{append-nil}
 use Rattle.std.proofs.lemmas.Nat.{mod_below}
 use Rattle.mds_base.specs.declared.limits.TheConstants.{EVENTS, MOMENTS}
+use Rattle.mds_base.specs.declared.ask.Ask.{Ask}
 use Rattle.mds_base.specs.declared.call.Call.{Call}
 use Rattle.mds_base.specs.declared.reply.Reply.{Reply}
 use Rattle.mds_base.specs.declared.setup.Setup.{Setup}
@@ -11,14 +13,23 @@ use Rattle.records.specs.declared.msg.Msg.{Msg}
 use Rattle.records.specs.declared.msg.Msg.TheVariants.{Request, Redirect, Answer, Busy, Held, Page, Closed, Transfer, Installed}
 use Rattle.bitmap.specs.Bits.{Bits}
 use Rattle.client_core.specs.declared.client.Pending.{Pending}
-use Rattle.client_core.specs.Clients.{ClientV, target_of, issued, issue_msg, resent, resend_msg, merged, request_of}
+use Rattle.client_core.specs.Clients.{ClientV, target_of, issued, resent, merged, request_of}
 use Rattle.mds_base.specs.Calls.{dir_of}
 use Rattle.client_core.specs.Taking.{take, take_at, take_pending, answered_if, redirected_if, busy_if, held_if}
+use Rattle.node_core.specs.Nodes.{StoreV}
+use Rattle.node_core.specs.Rules.{Outcome, Silent, Looks, Repeats, Carries, outcome, request_in}
+use Rattle.node_core.specs.Serving.{serve, serve_request, served_as}
 use Rattle.node_store.specs.Serve.{IsWellMade}
 use Rattle.node_store.specs.Store.{Store}
-use Rattle.mds_base.proofs.Grow.{each_push, each_map, each_set, length_set, within}
+use Rattle.mds_base.proofs.Grow.{each_push, each_map, each_set, length_set}
 use Rattle.mds_base.specs.Setups.{IsSetup}
-use Rattle.simulation.specs.Ranges.{IsOpenCall, IsOpen, IsSeat, IsSent, AreRanges}
+use Rattle.simulation.specs.declared.servers.Served.{Served}
+use Rattle.simulation.specs.declared.servers.Served.TheVariants as serves
+use Rattle.simulation.specs.Moves.{sent_after}
+use Rattle.simulation.specs.Ranges.{IsOpenCall, IsOpen, IsSeat, IsSent, AreStores, AreSeats, AreSent, AreRanges}
+use Rattle.simulation.specs.Shows.{SimulationV}
+
+-- Clients
 
 open_more : (count seq : ℕ) (pending : Option Pending) → IsOpen count seq pending → IsOpen (count + 1) seq pending
 open_more count seq None o = tt
@@ -101,72 +112,65 @@ request_sent setup count k client seq attempt call ranges there s from below mad
   };
 }
 
-module _ {X : Type 0} (setup : Setup) (now count : ℕ) (stores : List (Store X)) (clients : List ClientV) (sent : List Msg) (r : AreRanges setup now count stores clients sent) (room : count < EVENTS) where
-  -- one event more
-  pub ranged_count : AreRanges setup now (count + 1) stores clients sent
-  ranged_count = record {
-    setup' = r.setup';
-    moment = r.moment;
-    events = omega (arith, room);
-    stores' = r.stores';
-    numbers = r.numbers;
-    clients' = r.clients';
-    seats = each_map r.seats (λ k client s. seat_more setup count k client s);
-    sent' = r.sent';
-  }
+-- Messages that a server sends
 
-  -- one event more, by which the moment rose
-  pub ranged_moment : (by : ℕ) → now + by < MOMENTS → AreRanges setup (now + by) (count + 1) stores clients sent
-  ranged_moment by below = record {
-    setup' = r.setup';
-    moment = below;
-    events = omega (arith, room);
-    stores' = r.stores';
-    numbers = r.numbers;
-    clients' = r.clients';
-    seats = each_map r.seats (λ k client s. seat_more setup count k client s);
-    sent' = r.sent';
-  }
+module _ {setup : Setup} {sent : List Msg} (good : AreSent setup sent) where
+  sent_none : AreSent setup (sent ++ [])
+  sent_none = subst (AreSent setup) (sym (append-nil sent)) good
 
-  -- one event more, by which a client changed
-  pub ranged_client : (k : ℕ) (client : ClientV) → IsSeat setup (count + 1) k client → AreRanges setup now (count + 1) stores (slice_set clients k client) sent
-  ranged_client k client s = record {
-    setup' = r.setup';
-    moment = r.moment;
-    events = omega (arith, room);
-    stores' = r.stores';
-    numbers = r.numbers;
-    clients' = length_set clients k client ∙ r.clients';
-    seats = each_set k client (each_map r.seats (λ j other t. seat_more setup count j other t)) s;
-    sent' = r.sent';
-  }
+  as_sent : (store : StoreV) (ask : Ask) (o : Outcome) → AreSent setup (sent ++ (served_as store ask o).outputs)
+  as_sent store ask Silent = sent_none
+  as_sent store ask (Looks reply) = each_push _ good (record { there = tt; made = tt })
+  as_sent store ask (Repeats said) = each_push _ good (record { there = tt; made = tt })
+  as_sent store ask (Carries said) = each_push _ good (record { there = tt; made = tt })
 
-  -- and a message was sent
-  pub ranged_sent : (k : ℕ) (client : ClientV) (msg : Msg) → IsSeat setup (count + 1) k client → IsSent setup.servers msg → AreRanges setup now (count + 1) stores (slice_set clients k client) (sent ++ msg ∷ [])
-  ranged_sent k client msg s good = record {
-    setup' = r.setup';
-    moment = r.moment;
-    events = omega (arith, room);
-    stores' = r.stores';
-    numbers = r.numbers;
-    clients' = length_set clients k client ∙ r.clients';
-    seats = each_set k client (each_map r.seats (λ j other t. seat_more setup count j other t)) s;
-    sent' = each_push msg r.sent' good;
-  }
+  asked_sent : (store : StoreV) (request : Option Ask) (now : ℕ) → AreSent setup (sent ++ (serve_request store request now).outputs)
+  asked_sent store None now = sent_none
+  asked_sent store (Some ask) now = as_sent store ask (outcome store ask now)
 
-  pub issued_sent : (k : ℕ) (client : ClientV) (call : Call) → slice_get clients k ≡ Some client → IsWellMade call → IsSent setup.servers (issue_msg client call)
-  issued_sent k client call is made =
-      let s = r.seats.at k client is in
-      let below = s.seq in
-      let there = within clients k client is in
-      let all = r.clients' in
-      request_sent setup count k client (client.seq + 1) 1 call r.setup' (omega (arith, there, all)) s (omega arith) (omega (arith, below, room)) made
+  after_sent : (store : StoreV) (msg : Msg) (now : ℕ) (served : Served) → AreSent setup (sent_after sent (serve store msg now) served)
+  after_sent store msg now serves.Stopped = good
+  after_sent store msg now serves.Silent = asked_sent store (request_in msg) now
+  after_sent store msg now (serves.Answered place) = asked_sent store (request_in msg) now
 
-  pub resent_sent : (k : ℕ) (client : ClientV) (pending : Pending) → slice_get clients k ≡ Some client → client.pending ≡ Some pending → IsSent setup.servers (resend_msg client pending)
-  resent_sent k client pending is busy =
-      let s = r.seats.at k client is in
-      let below = s.seq in
-      let there = within clients k client is in
-      let all = r.clients' in
-      let o : IsOpenCall count client.seq pending = subst (IsOpen count client.seq) busy s.pending in
-      request_sent setup count k client client.seq (pending.attempt + 1) pending.call r.setup' (omega (arith, there, all)) s o.numbered (omega (arith, below, room)) o.made
+  pub served_sent : (store : StoreV) (msg : Msg) (now : ℕ) (served : Served) (sent' : List Msg) → sent' ≡ sent_after sent (serve store msg now) served → AreSent setup sent'
+  served_sent store msg now served sent' is = subst (AreSent setup) (sym is) (after_sent store msg now served)
+
+-- One part changed
+
+pub stores_set : {X : Type 0} {setup : Setup} {stores : List (Store X)} (k : ℕ) (store new : Store X) → AreStores setup stores → slice_get stores k ≡ Some store → (new.server ≡ store.server) × (new.setup ≡ store.setup) → AreStores setup (slice_set stores k new)
+stores_set {stores = stores} k store new are is same = record {
+  all = length_set stores k new ∙ are.all;
+  each = each_set k new are.each (same.0 ∙ (are.each.at k store is).0, same.1 ∙ (are.each.at k store is).1);
+}
+
+seats_more : {setup : Setup} {count : ℕ} {clients : List ClientV} → AreSeats setup count clients → AreSeats setup (count + 1) clients
+seats_more {setup = setup} {count = count} are = record { all = are.all; each = each_map are.each (λ k client s. seat_more setup count k client s) }
+
+seats_set : {setup : Setup} {count : ℕ} {clients : List ClientV} (k : ℕ) (client : ClientV) → AreSeats setup count clients → IsSeat setup count k client → AreSeats setup count (slice_set clients k client)
+seats_set {clients = clients} k client are s = record { all = length_set clients k client ∙ are.all; each = each_set k client are.each s }
+
+module _ {X : Type 0} {setup : Setup} {now count : ℕ} {stores : List (Store X)} {clients : List ClientV} {sent : List Msg} (r : AreRanges setup now count stores clients sent) where
+  -- no event more
+  pub ranged_still : (stores' : List (Store X)) (sent' : List Msg) → AreStores setup stores' → AreSent setup sent' → AreRanges setup now count stores' clients sent'
+  ranged_still stores' sent' are good = record { setup' = r.setup'; moment = r.moment; events = r.events; stores' = are; clients' = r.clients'; sent' = good }
+
+  module _ (room : count < EVENTS) where
+    -- one event more, of a server
+    pub ranged_event : (stores' : List (Store X)) (sent' : List Msg) → AreStores setup stores' → AreSent setup sent' → AreRanges setup now (count + 1) stores' clients sent'
+    ranged_event stores' sent' are good = record { setup' = r.setup'; moment = r.moment; events = omega (arith, room); stores' = are; clients' = seats_more r.clients'; sent' = good }
+
+    -- of no one
+    pub ranged_count : AreRanges setup now (count + 1) stores clients sent
+    ranged_count = ranged_event stores sent r.stores' r.sent'
+
+    pub ranged_moment : (by : ℕ) → now + by < MOMENTS → AreRanges setup (now + by) (count + 1) stores clients sent
+    ranged_moment by below = record { setup' = r.setup'; moment = below; events = omega (arith, room); stores' = r.stores'; clients' = seats_more r.clients'; sent' = r.sent' }
+
+    -- of a client
+    pub ranged_client : (k : ℕ) (client : ClientV) (sent' : List Msg) → IsSeat setup (count + 1) k client → AreSent setup sent' → AreRanges setup now (count + 1) stores (slice_set clients k client) sent'
+    ranged_client k client sent' s good = record { setup' = r.setup'; moment = r.moment; events = omega (arith, room); stores' = r.stores'; clients' = seats_set k client (seats_more r.clients') s; sent' = good }
+
+-- there is room for an event
+pub room_in : {X : Type 0} {was old : SimulationV X} → was ≡ old → old.count < EVENTS → was.count < EVENTS
+room_in {X = X} same room = subst (λ (v : SimulationV X). v.count < EVENTS) (sym same) room

@@ -6,7 +6,6 @@ use Rattle.std.specs.FinSet as set
 use Rattle.std.specs.Ordering.{nat_cmp}
 use Rattle.mds_base.specs.declared.call.Call.{Call}
 use Rattle.records.specs.declared.msg.Msg.{Msg}
-use Rattle.records.specs.declared.record.Record.{Record}
 use Rattle.client_core.specs.declared.client.Pending.{Pending}
 use Rattle.client_core.specs.declared.taken.Taken.{Taken}
 use Rattle.client_core.specs.declared.taken.Taken.TheVariants.{Answer}
@@ -15,6 +14,7 @@ use Rattle.client_core.specs.Taking.{Took, take}
 use Rattle.mds_out.specs.Fused.{Fused}
 use Rattle.node_core.specs.Serving.{ServedV}
 use Rattle.node_store.specs.Store.{Store}
+use Rattle.simulation.specs.declared.made.Made.{Made}
 use Rattle.simulation.specs.declared.servers.Served.{Served}
 use Rattle.simulation.specs.declared.servers.Served.TheVariants as serves
 use Rattle.simulation.specs.Entries.{changes_of, lookup_of, with_one}
@@ -90,38 +90,33 @@ taken_by sim number place = taken_as sim number place (client_at sim.clients num
 
 -- ---- a server, with its new store
 
--- it is stopped, or its restart failed
+-- it is stopped
 abbrev pub halted_by : {X : Type 0} → SimulationV X → ℕ → Store X → SimulationV X
 halted_by sim server store = record sim { count = sim.count + 1; stores = slice_set sim.stores server store }
 
--- its device stopped it in a Serve of the message at a place
-abbrev pub stopped_by : {X : Type 0} → SimulationV X → ℕ → ℕ → Store X → SimulationV X
-stopped_by sim server place store =
+-- the messages, and the entries, once a Serve ended so that gives this; the messages stood up to this place before
+abbrev pub sent_after : List Msg → ServedV → Served → List Msg
+sent_after sent given serves.Stopped = sent
+sent_after sent given served = sent ++ given.outputs
+
+abbrev pub made_after : List Made → Msg → ServedV → ℕ → Served → List Made
+made_after made msg given place serves.Stopped = made
+made_after made msg given place served = with_one (made ++ changes_of given.records) (lookup_of msg given.outputs place)
+
+-- its Serve of the message at a place ended so
+abbrev pub served_by : {X : Type 0} → SimulationV X → ℕ → ℕ → Store X → Msg → ServedV → Served → SimulationV X
+served_by sim server place store msg given served =
     record sim {
       count = sim.count + 1;
       stores = slice_set sim.stores server store;
+      sent = sent_after sim.sent given served;
       waiting = set.remove sim.waiting (server, place);
+      made = made_after sim.made msg given (length sim.sent) served;
     }
 
--- the Serve was done, and handed this out
-abbrev pub served_by : {X : Type 0} → SimulationV X → ℕ → ℕ → Store X → Msg → ServedV → SimulationV X
-served_by sim server place store msg given =
-    record sim {
-      count = sim.count + 1;
-      stores = slice_set sim.stores server store;
-      sent = sim.sent ++ given.outputs;
-      waiting = set.remove sim.waiting (server, place);
-      made = with_one (sim.made ++ changes_of given.records) (lookup_of msg given.outputs (length sim.sent));
-    }
-
--- by how it ended
-abbrev pub ended_as : {X : Type 0} → SimulationV X → ℕ → ℕ → Store X → Msg → ServedV → Served → SimulationV X
-ended_as sim server place store msg given serves.Stopped = stopped_by sim server place store
-ended_as sim server place store msg given served = served_by sim server place store msg given
-
--- it was restarted, and kept these records
-abbrev pub restarted_by : {X : Type 0} → SimulationV X → ℕ → Store X → List Record → SimulationV X
-restarted_by sim server store kept = record sim { count = sim.count + 1; stores = slice_set sim.stores server store; made = sim.made ++ changes_of kept }
+-- its restart ended, and these are the entries then
+abbrev pub restarted_by : {X : Type 0} → SimulationV X → ℕ → Store X → List Made → SimulationV X
+restarted_by sim server store made = record sim { count = sim.count + 1; stores = slice_set sim.stores server store; made = made }
 
 -- ---- its store
 
