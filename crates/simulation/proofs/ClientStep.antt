@@ -222,10 +222,10 @@ pub happens_after : {X : Type 0} {was old new : SimulationV X} (same : was ≡ o
 happens_after {X = X} {old = old} same seen images event f happens after =
     subst (λ n. Happens seen images old n event) (sym after) (subst (λ (v : SimulationV X). Happens seen images v (f v) event) same happens)
 
-pub on_happens : {X : Type 0} {T E : Type 0} {was old new : SimulationV X} (same : was ≡ old) (seen : X → Contents) (images : X → Image → Type 0) (event : Event) (result : Result T E) (f : SimulationV X → SimulationV X)
+pub on_happens : {X : Type 0} {T E : Type 0} {was old : SimulationV X} (same : was ≡ old) (new : SimulationV X) (seen : X → Contents) (images : X → Image → Type 0) (event : Event) (result : Result T E) (f : SimulationV X → SimulationV X)
     → Happens seen images was (f was) event → OnOk result (new ≡ f old) → OnOk result (Happens seen images old new event)
-on_happens same seen images event (Ok x) f happens after = happens_after same seen images event f happens after
-on_happens same seen images event (Err e) f happens after = tt
+on_happens same new seen images event (Ok x) f happens after = happens_after same seen images event f happens after
+on_happens same new seen images event (Err e) f happens after = tt
 
 -- ---- that a simulation shows a run with one event more, a lemma for each function
 

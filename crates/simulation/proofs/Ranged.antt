@@ -114,7 +114,7 @@ request_sent setup count k client seq attempt call ranges there s from below mad
 
 -- Messages that a server sends
 
-module _ {setup : Setup} {sent : List Msg} (good : AreSent setup sent) where
+module _ (setup : Setup) (sent : List Msg) (good : AreSent setup sent) where
   sent_none : AreSent setup (sent ++ [])
   sent_none = subst (AreSent setup) (sym (append-nil sent)) good
 

@@ -31,30 +31,30 @@ use Rattle.simulation.proofs.Stopping.{near_after}
 
 -- ---- on a disk whose fuse was mended first
 
-module _ {D : Type 0} (seen : D → Contents) (images : D → Image → Type 0) (faults : D → ℕ) {store mid new : Store (Fused D)} (same : mid ≡ mended store) where
+module _ {D : Type 0} (seen : D → Contents) (images : D → Image → Type 0) (faults : D → ℕ) (store mid new : Store (Fused D)) (same : mid ≡ mended store) where
   from_mended : (kept now : ℕ) → IsRestarted (seen_by seen) (images_by images) (mended store) new kept now → IsRestarted (seen_by seen) (images_by images) store new kept now
   from_mended kept now r = record { told = r.told; server = r.server; setup = r.setup; all_or_none = r.all_or_none; up = λ owed d. r.up owed (record { down = d.down; told = d.told }) }
 
   still_mended : IsDownStill (seen_by seen) (images_by images) (mended store) new → IsDownStill (seen_by seen) (images_by images) store new
   still_mended t = record { told = t.told; server = t.server; setup = t.setup; doubt = t.doubt; at = λ owed d. t.at owed (record { down = d.down; told = d.told }) }
 
-  ends_mended : {now : ℕ} {made made' : List Made} (ended : Restarted) → RestartsOn (seen_by seen) (images_by images) (fused_faults faults) (mended store) new now made made' ended → RestartsOn (seen_by seen) (images_by images) (fused_faults faults) store new now made made' ended
-  ends_mended {now = now} restarts.Up r = record { kept = r.kept; restarted' = from_mended r.kept now r.restarted'; entries = r.entries; faults' = r.faults' }
-  ends_mended restarts.Stopped f = record { still = still_mended f.still; entries = f.entries; rose = f.rose }
+  ends_mended : (now : ℕ) (made made' : List Made) (ended : Restarted) → RestartsOn (seen_by seen) (images_by images) (fused_faults faults) (mended store) new now made made' ended → RestartsOn (seen_by seen) (images_by images) (fused_faults faults) store new now made made' ended
+  ends_mended now made made' restarts.Up r = record { kept = r.kept; restarted' = from_mended r.kept now r.restarted'; entries = r.entries; faults' = r.faults' }
+  ends_mended now made made' restarts.Stopped f = record { still = still_mended f.still; entries = f.entries; rose = f.rose }
 
-  near_by : {now : ℕ} → NearRestarted (seen_by seen) (images_by images) (mended store) new now → NearRestarted (seen_by seen) (images_by images) store new now
-  near_by (inl t) = inl (still_mended t)
-  near_by {now = now} (inr r) = inr (r.0, from_mended r.0 now r.1)
+  near_by : (now : ℕ) → NearRestarted (seen_by seen) (images_by images) (mended store) new now → NearRestarted (seen_by seen) (images_by images) store new now
+  near_by now (inl t) = inl (still_mended t)
+  near_by now (inr r) = inr (r.0, from_mended r.0 now r.1)
 
-  pub mended_ends : {now : ℕ} {made made' : List Made} (ended : Restarted) → RestartsOn (seen_by seen) (images_by images) (fused_faults faults) mid new now made made' ended → RestartsOn (seen_by seen) (images_by images) (fused_faults faults) store new now made made' ended
-  mended_ends {now = now} {made = made} {made' = made'} ended r = ends_mended ended (subst (λ s. RestartsOn (seen_by seen) (images_by images) (fused_faults faults) s new now made made' ended) same r)
+  pub mended_ends : (now : ℕ) (made made' : List Made) (ended : Restarted) → RestartsOn (seen_by seen) (images_by images) (fused_faults faults) mid new now made made' ended → RestartsOn (seen_by seen) (images_by images) (fused_faults faults) store new now made made' ended
+  mended_ends now made made' ended r = ends_mended now made made' ended (subst (λ s. RestartsOn (seen_by seen) (images_by images) (fused_faults faults) s new now made made' ended) same r)
 
-  pub mended_near : {now : ℕ} → NearRestarted (seen_by seen) (images_by images) mid new now → NearRestarted (seen_by seen) (images_by images) store new now
-  mended_near {now = now} r = near_by (subst (λ s. NearRestarted (seen_by seen) (images_by images) s new now) same r)
+  pub mended_near : (now : ℕ) → NearRestarted (seen_by seen) (images_by images) mid new now → NearRestarted (seen_by seen) (images_by images) store new now
+  mended_near now r = near_by now (subst (λ s. NearRestarted (seen_by seen) (images_by images) s new now) same r)
 
-  pub mended_sound : {fault : StoreFault} → (is_some (seen mid.disk.inner 1) ≡ true → (owed : StoreV) → IsDownAt (seen_by seen) (images_by images) mid owed → fault ≡ store_faults.OutOfMemory)
+  pub mended_sound : (fault : StoreFault) → (is_some (seen mid.disk.inner 1) ≡ true → (owed : StoreV) → IsDownAt (seen_by seen) (images_by images) mid owed → fault ≡ store_faults.OutOfMemory)
       → is_some (seen store.disk.inner 1) ≡ true → (owed : StoreV) → IsDownAt (seen_by seen) (images_by images) store owed → fault ≡ store_faults.OutOfMemory
-  mended_sound {fault = fault} sound told owed d =
+  mended_sound fault sound told owed d =
       subst (λ s. is_some (seen s.disk.inner 1) ≡ true → (owed : StoreV) → IsDownAt (seen_by seen) (images_by images) s owed → fault ≡ store_faults.OutOfMemory) same sound told owed (record { down = d.down; told = d.told })
 
   -- what licenses it
@@ -88,13 +88,13 @@ module _ {X : Type 0} {was old : SimulationV X} (same : was ≡ old) {server : �
       (record { was = store; is = s.is; down = s.down; store = new; made = made'; leaves = on; after = refl })
 
   -- a refused one leaves the servers near the run
-  pub restart_near : (last : SimulationV X) → last.stores ≡ slice_set was.stores server new → NearRestarted seen images store new was.moment → StaysNear seen images old last
-  restart_near last stores near = subst (λ (v : SimulationV X). StaysNear seen images v last) same (by near)
+  pub restart_near : NearRestarted seen images store new was.moment → StaysNear seen images old (record was { stores = slice_set was.stores server new })
+  restart_near near = subst (λ (v : SimulationV X). StaysNear seen images v (record was { stores = slice_set was.stores server new })) same (by near)
     where
-      by : NearRestarted seen images store new was.moment → StaysNear seen images was last
-      by (inl still) = refused_near seen images was server store new s.is s.down last stores still
+      by : NearRestarted seen images store new was.moment → StaysNear seen images was (record was { stores = slice_set was.stores server new })
+      by (inl still) = refused_near seen images was server store new s.is s.down (record was { stores = slice_set was.stores server new }) refl still
       by (inr r) =
-          near_after seen images was (restarted_by was server new (was.made ++ changes_of (take r.0 store.doubt))) last (Restart server r.0) refl stores
+          near_after seen images was (restarted_by was server new (was.made ++ changes_of (take r.0 store.doubt))) (record was { stores = slice_set was.stores server new }) (Restart server r.0) refl refl
           (restart_happens seen images was server store new s.is s.down r.0 r.1)
 
   -- and where a run is shown, it was for want of memory

@@ -52,7 +52,7 @@ never_stopped : (first : Option Msg) (place : ℕ) → serves.Stopped ≡ ended_
 never_stopped None place e = cc
 never_stopped (Some msg) place e = cc
 
-module _ {X : Type 0} (seen : X → Contents) (images : X → Image → Type 0) (faults : X → ℕ) {store new : Store X} (told : StaysTold (seen store.disk 1) (seen new.disk 1)) (same : (new.server ≡ store.server) × (new.setup ≡ store.setup)) (up : StoreV) (msg : Msg) (now : ℕ) where
+module _ {X : Type 0} (seen : X → Contents) (images : X → Image → Type 0) (faults : X → ℕ) (store new : Store X) (told : StaysTold (seen store.disk 1) (seen new.disk 1)) (same : (new.server ≡ store.server) × (new.setup ≡ store.setup)) (up : StoreV) (msg : Msg) (now : ℕ) where
   served_on : {handled : Handled} → HasServed (serve up msg now) new.up handled → IsServedOn seen store new (serve up msg now).store
   served_on did = record { told = told_stays (seen store.disk 1) (seen new.disk 1) told; server = same.0; setup = same.1; up' = did.up' }
 
@@ -60,7 +60,7 @@ module _ {X : Type 0} (seen : X → Contents) (images : X → Image → Type 0) 
   stopped_on did = record { told = told_stays (seen store.disk 1) (seen new.disk 1) told; server = same.0; setup = same.1; at = did.at; doubt = did.doubt }
 
   -- it was done
-  module _ {handled : Handled} (did : HasServed (serve up msg now) new.up handled) (kept : faults new.disk ≡ faults store.disk) {place : ℕ} {sent sent' : List Msg} {made made' : List Made} (there : slice_get sent place ≡ Some msg) where
+  module _ {handled : Handled} (did : HasServed (serve up msg now) new.up handled) (kept : faults new.disk ≡ faults store.disk) (place : ℕ) (sent sent' : List Msg) (made made' : List Made) (there : slice_get sent place ≡ Some msg) where
     done_as : (served : Served) → sent' ≡ sent ++ handled.outputs → ((m : Msg) → slice_get sent place ≡ Some m → made' ≡ with_one (made ++ changes_of handled.records) (lookup_of m handled.outputs (length sent))) → served ≡ ended_by handled.outputs (length sent)
         → ServesOn seen images faults store new up msg now sent sent' made made' served
     done_as serves.Stopped sends makes is = absurd (never_stopped (slice_get handled.outputs 0) (length sent) is)
@@ -82,9 +82,9 @@ module _ {X : Type 0} (seen : X → Contents) (images : X → Image → Type 0) 
     done_on (Ok served) sends makes is = done_as served sends makes is
     done_on (Err e) sends makes is = tt
 
-    pub undone_on : (result : Result Served AllocError) → OnErr result (NearServed seen images store new up (serve up msg now))
-    undone_on (Ok served) = tt
-    undone_on (Err e) = inr (inl (served_on did))
+  pub undone_on : {handled : Handled} → HasServed (serve up msg now) new.up handled → (result : Result Served AllocError) → OnErr result (NearServed seen images store new up (serve up msg now))
+  undone_on did (Ok served) = tt
+  undone_on did (Err e) = inr (inl (served_on did))
 
   -- it was refused
   pub near_on : (new ≡ store) ⊎ HasStopped seen images new up (serve up msg now).records → NearServed seen images store new up (serve up msg now)
@@ -92,10 +92,10 @@ module _ {X : Type 0} (seen : X → Contents) (images : X → Image → Type 0) 
   near_on (inr did) = inr (inr (stopped_on did))
 
   -- its device stopped it: a server that went down did not stay as it was
-  pub down_on : {sent : List Msg} {made : List Made} → (new ≡ store) ⊎ HasStopped seen images new up (serve up msg now).records → store.up ≡ Some up → new.up ≡ None → Rose (faults store.disk) (faults new.disk)
+  pub down_on : (sent : List Msg) (made : List Made) → (new ≡ store) ⊎ HasStopped seen images new up (serve up msg now).records → store.up ≡ Some up → new.up ≡ None → Rose (faults store.disk) (faults new.disk)
       → ServesOn seen images faults store new up msg now sent sent made made serves.Stopped
-  down_on (inl same') is down rose = let e = ap (λ (s : Store X). s.up) same' in cc
-  down_on (inr did) is down rose = record { leaves = (stopped_on did, rose); tells = tt; sends = refl; makes = refl }
+  down_on sent made (inl same') is down rose = let e = ap (λ (s : Store X). s.up) same' in cc
+  down_on sent made (inr did) is down rose = record { leaves = (stopped_on did, rose); tells = tt; sends = refl; makes = refl }
 
 -- what licenses it
 
@@ -131,7 +131,7 @@ serving {X = X} {was = was} {old = old} same place server store can is read =
       to = record {
         is = u.is;
         up' = u.up';
-        numbers = numbers_of u (subst (λ s. has_numbers_at was s ≡ true) e (subst (λ (v : SimulationV X). has_numbers_at v can.server ≡ true) (sym same) can.numbers));
+        numbers = numbers_of was u (subst (λ s. has_numbers_at was s ≡ true) e (subst (λ (v : SimulationV X). has_numbers_at v can.server ≡ true) (sym same) can.numbers));
         there = m.1;
         meant = sym (ap server_for m.1) ∙ meant;
       };
@@ -166,16 +166,16 @@ module _ {X : Type 0} {was old : SimulationV X} (same : was ≡ old) {server pla
       }))
 
   -- a refused one leaves the servers near the run
-  pub serve_near : (seen : X → Contents) (images : X → Image → Type 0) (new : Store X) (last : SimulationV X) → last.stores ≡ slice_set was.stores server new → NearServed seen images store new s.up (serve s.up s.msg was.moment) → StaysNear seen images old last
-  serve_near seen images new last stores near = subst (λ (v : SimulationV X). StaysNear seen images v last) same (by near)
+  pub serve_near : (seen : X → Contents) (images : X → Image → Type 0) (new : Store X) → NearServed seen images store new s.up (serve s.up s.msg was.moment) → StaysNear seen images old (record was { stores = slice_set was.stores server new })
+  serve_near seen images new near = subst (λ (v : SimulationV X). StaysNear seen images v (record was { stores = slice_set was.stores server new })) same (by near)
     where
-      by : NearServed seen images store new s.up (serve s.up s.msg was.moment) → StaysNear seen images was last
-      by (inl same') = stays_near seen images was last (stores ∙ ap (slice_set was.stores server) same' ∙ set_same was.stores server store s.to.is)
+      by : NearServed seen images store new s.up (serve s.up s.msg was.moment) → StaysNear seen images was (record was { stores = slice_set was.stores server new })
+      by (inl same') = stays_near seen images was (record was { stores = slice_set was.stores server new }) (ap (slice_set was.stores server) same' ∙ set_same was.stores server store s.to.is)
       by (inr (inl served)) =
-          near_after seen images was (served_by was server place new s.msg (serve s.up s.msg was.moment) serves.Silent) last (Serve server (place ∷ []) ends.Done) refl stores
+          near_after seen images was (served_by was server place new s.msg (serve s.up s.msg was.moment) serves.Silent) (record was { stores = slice_set was.stores server new }) (Serve server (place ∷ []) ends.Done) refl refl
           (serve_happens seen images was server place store new s.up s.msg s.to served)
       by (inr (inr stopped)) =
-          near_after seen images was (served_by was server place new s.msg (serve s.up s.msg was.moment) serves.Stopped) last (Serve server (place ∷ []) ends.Stop) refl stores
+          near_after seen images was (served_by was server place new s.msg (serve s.up s.msg was.moment) serves.Stopped) (record was { stores = slice_set was.stores server new }) (Serve server (place ∷ []) ends.Stop) refl refl
           (stop_happens seen images was server place store new s.up s.msg s.to stopped)
 
 -- its stops are licensed

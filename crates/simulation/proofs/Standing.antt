@@ -79,8 +79,8 @@ store_after {X = X} {was = was} same server store new f g is after other there =
 pub others_stay : {X : Type 0} {was old : SimulationV X} (same : was ≡ old) (server : ℕ) (store : Store X) (other : ℕ) → other ≢ server → slice_get (slice_set was.stores server store) other ≡ slice_get old.stores other
 others_stay {X = X} {was = was} same server store other apart = set_apart was.stores server other store apart ∙ ap (λ (v : SimulationV X). slice_get v.stores other) same
 
-pub numbers_of : {X : Type 0} {sim : SimulationV X} {server : ℕ} {store : Store X} (u : IsUpStore sim.stores server store) → has_numbers_at sim server ≡ true → has_numbers u.up.node ≡ true
-numbers_of u e = ap up_has_numbers (sym u.up') ∙ ap store_has_numbers (sym u.is) ∙ e
+pub numbers_of : {X : Type 0} (sim : SimulationV X) {server : ℕ} {store : Store X} (u : IsUpStore sim.stores server store) → has_numbers_at sim server ≡ true → has_numbers u.up.node ≡ true
+numbers_of sim u e = ap up_has_numbers (sym u.up') ∙ ap store_has_numbers (sym u.is) ∙ e
 
 -- the server of a world that one that is up is
 pub record IsUpAs (state : ServerState) (up : StoreV) : Type 0 where

@@ -14,12 +14,12 @@ hand_out-requires g c = within c.args.sent.now c.args.place c.requires.one.0 c.r
 
 pub returns-in-Ok-clause-ok : goal.returns-in-Ok-clause-ok
 returns-in-Ok-clause-ok g c = λ up msg is there.
-    done_on (seen_by g.D.Disk.seen) (images_by g.D.Disk.images) (fused_faults g.D.Disk.faults) c.serve_batch.ensures.told c.serve_batch.ensures.same up msg c.args.moment (c.in-Ok.ensures.served msg up (one_message c.requires.one msg there) is) c.in-Ok.ensures.call.cause.kept there
+    done_on (seen_by g.D.Disk.seen) (images_by g.D.Disk.images) (fused_faults g.D.Disk.faults) c.args.store.now c.serve_batch.new.self c.serve_batch.ensures.told c.serve_batch.ensures.same up msg c.args.moment (c.in-Ok.ensures.served msg up (one_message c.requires.one msg there) is) c.in-Ok.ensures.call.cause.kept c.args.place c.args.sent.now c.hand_out.new.sent c.args.made.now.items c.hand_out.new.made.items there
     c.hand_out.result c.hand_out.ensures.sent c.hand_out.ensures.made c.hand_out.ensures.served
 
 pub returns-in-Ok-clause-err : goal.returns-in-Ok-clause-err
 returns-in-Ok-clause-err g c = λ up msg is there.
-    undone_on (seen_by g.D.Disk.seen) (images_by g.D.Disk.images) (fused_faults g.D.Disk.faults) c.serve_batch.ensures.told c.serve_batch.ensures.same up msg c.args.moment (c.in-Ok.ensures.served msg up (one_message c.requires.one msg there) is) c.in-Ok.ensures.call.cause.kept there c.hand_out.result
+    undone_on (seen_by g.D.Disk.seen) (images_by g.D.Disk.images) (fused_faults g.D.Disk.faults) c.args.store.now c.serve_batch.new.self c.serve_batch.ensures.told c.serve_batch.ensures.same up msg c.args.moment (c.in-Ok.ensures.served msg up (one_message c.requires.one msg there) is) c.hand_out.result
 
 pub returns-in-Ok-clause-licensed : goal.returns-in-Ok-clause-licensed
 returns-in-Ok-clause-licensed g c =
@@ -28,7 +28,7 @@ returns-in-Ok-clause-licensed g c =
 pub returns-in-Device-clause-ok : goal.returns-in-Device-clause-ok
 returns-in-Device-clause-ok g c = λ up msg is there.
     let device = c.in-Err.is ∙ ap Err c.in-Device.is in
-    down_on (seen_by g.D.Disk.seen) (images_by g.D.Disk.images) (fused_faults g.D.Disk.faults) c.serve_batch.ensures.told c.serve_batch.ensures.same up msg c.args.moment (c.in-Err.ensures.refused msg up (one_message c.requires.one msg there) is) is
+    down_on (seen_by g.D.Disk.seen) (images_by g.D.Disk.images) (fused_faults g.D.Disk.faults) c.args.store.now c.serve_batch.new.self c.serve_batch.ensures.told c.serve_batch.ensures.same up msg c.args.moment c.args.sent.now c.args.made.now.items (c.in-Err.ensures.refused msg up (one_message c.requires.one msg there) is) is
     (c.serve_batch.ensures.down device) (c.serve_batch.ensures.call.cause.device device)
 
 pub returns-in-Device-clause-licensed : goal.returns-in-Device-clause-licensed
@@ -36,9 +36,9 @@ returns-in-Device-clause-licensed g c =
     let device = c.in-Err.is ∙ ap Err c.in-Device.is in
     serve_stop g.D.Disk.lasts g.D.Disk.fails g.D.Disk.faults c.requires.up.1 c.serve_batch.ensures.call.lasts g.met.D.Disk.fails_rise (c.serve_batch.ensures.down device) (c.serve_batch.ensures.call.failed device)
 
-pub returns-in_default-fault-clause-err : goal.returns-in_default-fault-clause-err
-returns-in_default-fault-clause-err g c = λ up msg is there.
-    near_on (seen_by g.D.Disk.seen) (images_by g.D.Disk.images) (fused_faults g.D.Disk.faults) c.serve_batch.ensures.told c.serve_batch.ensures.same up msg c.args.moment (c.in-Err.ensures.refused msg up (one_message c.requires.one msg there) is)
+pub returns-in_default-clause-err : goal.returns-in_default-clause-err
+returns-in_default-clause-err g c = λ up msg is there.
+    near_on (seen_by g.D.Disk.seen) (images_by g.D.Disk.images) (fused_faults g.D.Disk.faults) c.args.store.now c.serve_batch.new.self c.serve_batch.ensures.told c.serve_batch.ensures.same up msg c.args.moment (c.in-Err.ensures.refused msg up (one_message c.requires.one msg there) is)
 
-pub returns-in_default-fault-clause-licensed : goal.returns-in_default-fault-clause-licensed
-returns-in_default-fault-clause-licensed g c = serve_quiet g.D.Disk.lasts g.D.Disk.fails g.D.Disk.faults c.requires.up.1 c.serve_batch.ensures.call.lasts 0 refl
+pub returns-in_default-clause-licensed : goal.returns-in_default-clause-licensed
+returns-in_default-clause-licensed g c = serve_quiet g.D.Disk.lasts g.D.Disk.fails g.D.Disk.faults c.requires.up.1 c.serve_batch.ensures.call.lasts 0 refl

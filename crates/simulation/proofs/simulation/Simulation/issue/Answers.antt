@@ -51,5 +51,5 @@ returns-clause-after g c =
 pub returns-clause-ok : goal.returns-clause-ok
 returns-clause-ok g c =
     let at = called c.self.view_is is_idle c.args.client c.index_mut.result.now c.self.invariant.0 c.requires.room refl c.requires.free c.index_mut.ensures.value in
-    on_happens c.self.view_is (seen_by g.D.Disk.seen) (images_by g.D.Disk.images) (Issue c.args.client c.args.call) c.send.result (λ v. issued_by v c.args.client c.args.call)
+    on_happens c.self.view_is _ (seen_by g.D.Disk.seen) (images_by g.D.Disk.images) (Issue c.args.client c.args.call) c.send.result (λ v. issued_by v c.args.client c.args.call)
     (issued_happens (seen_by g.D.Disk.seen) (images_by g.D.Disk.images) at c.args.call c.requires.served) (returns-clause-after g c)

@@ -47,5 +47,5 @@ returns-clause-after g c =
 pub returns-clause-ok : goal.returns-clause-ok
 returns-clause-ok g c =
     let at = called c.self.view_is is_busy c.args.client c.index_mut.result.now c.self.invariant.0 c.requires.room refl c.requires.busy c.index_mut.ensures.value in
-    on_happens c.self.view_is (seen_by g.D.Disk.seen) (images_by g.D.Disk.images) (Resend c.args.client) c.send.result (λ v. resent_by v c.args.client)
+    on_happens c.self.view_is _ (seen_by g.D.Disk.seen) (images_by g.D.Disk.images) (Resend c.args.client) c.send.result (λ v. resent_by v c.args.client)
     (resent_happens (seen_by g.D.Disk.seen) (images_by g.D.Disk.images) at) (returns-clause-after g c)

@@ -26,7 +26,7 @@ invariant_of-self g c =
 pub returns-in_err-served-clause-err : goal.returns-in_err-served-clause-err
 returns-in_err-served-clause-err g c =
     let s = serving c.self.view_is c.args.place c.in-Some.server c.index_mut.result.now c.requires.message c.in-Some.ensures.value c.index_mut.ensures.value in
-    on_err _ _ (serve_near c.self.view_is s (seen_by g.D.Disk.seen) (images_by g.D.Disk.images) c.serve_on.new.store _ refl (c.in_err-served.ensures.err s.up s.msg s.to.up' s.to.there))
+    on_err _ _ (serve_near c.self.view_is s (seen_by g.D.Disk.seen) (images_by g.D.Disk.images) c.serve_on.new.store (c.in_err-served.ensures.err s.up s.msg s.to.up' s.to.there))
 
 pub returns-in_err-served-clause-licensed : goal.returns-in_err-served-clause-licensed
 returns-in_err-served-clause-licensed g c =
@@ -38,7 +38,7 @@ invariant_of-self-2 g c =
     let s = serving c.self.view_is c.args.place c.in-Some.server c.index_mut.result.now c.requires.message c.in-Some.ensures.value c.index_mut.ensures.value in
     let r = c.self.invariant.0 in
     let on = c.in_ok-served.ensures.ok s.up s.msg s.to.up' s.to.there in
-    (ranged_event r (room_in c.self.view_is c.requires.room) _ _ (stores_set c.in-Some.server c.index_mut.result.now c.serve_on.new.store r.stores' s.to.is c.serve_on.ensures.same) (served_sent r.sent' s.up s.msg c.self.inside.moment c.in_ok-served.served c.serve_on.new.sent on.sends), c.self.invariant.1, c.self.invariant.2)
+    (ranged_event r (room_in c.self.view_is c.requires.room) _ _ (stores_set c.in-Some.server c.index_mut.result.now c.serve_on.new.store r.stores' s.to.is c.serve_on.ensures.same) (served_sent c.self.inside.setup c.self.inside.sent r.sent' s.up s.msg c.self.inside.moment c.in_ok-served.served c.serve_on.new.sent on.sends), c.self.invariant.1, c.self.invariant.2)
 
 pub returns-clause-after : goal.returns-clause-after
 returns-clause-after g c =
