@@ -7,7 +7,7 @@ use Rattle.std.specs.Ordering.{nat_cmp}
 use Rattle.std.specs.declared.alloc.AllocError.{AllocError}
 use Rattle.std.proofs.lemmas.List.{length-append}
 use Rattle.std.proofs.lemmas.Bool.{eq-eqb, true≢false}
-use Rattle.mds_base.specs.declared.limits.TheConstants.{ATTEMPTS, CALLS, EVENTS}
+use Rattle.mds_base.specs.declared.limits.TheConstants.{CALLS, EVENTS}
 use Rattle.mds_base.specs.declared.call.Call.{Call}
 use Rattle.mds_out.specs.Disk.{Image, Contents}
 use Rattle.records.specs.declared.msg.Msg.{Msg}
@@ -18,18 +18,14 @@ use Rattle.client_core.specs.Taking as taking
 use Rattle.node_core.proofs.Calls.{well_made_fits}
 use Rattle.node_store.specs.Serve.{IsWellMade}
 use Rattle.world.specs.declared.event.Event.{Event}
-use Rattle.world.specs.declared.event.Event.TheVariants.{Issue, Resend, Take}
-use Rattle.world.specs.Events.{is_call, is_for_client}
-use Rattle.mds_base.proofs.Grow.{each_push, get_last, within}
+use Rattle.mds_base.proofs.Grow.{get_last, within}
 use Rattle.simulation.specs.Calls.{IsRequestAt, IsSend, taken_of}
-use Rattle.simulation.specs.Moves.{sent_by, issued_as, issued_by, resent_open, resent_as, resent_by, noting, took_by, taken_as, taken_by}
-use Rattle.simulation.specs.Ranges.{IsOpenCall, IsOpen, IsSeat, IsSent, AreSent, AreRanges, InRange}
+use Rattle.simulation.specs.Moves.{sent_by, issued_as, issued_by, resent_open, resent_as, resent_by, noting, taken_as, taken_by}
+use Rattle.simulation.specs.Ranges.{IsOpenCall, IsOpen, IsSeat, IsSent, IsRanged, InRange}
 use Rattle.simulation.specs.Shows.{SimulationV, Happens, waiting_cmp, client_at, server_for, is_request_of, is_idle, is_busy}
-use Rattle.simulation.proofs.Ranged.{seat_more, issued_seat, resent_seat, taken_seat, request_sent, ranged_client, room_in}
-use Rattle.simulation.proofs.Sending.{issue_happens, resend_happens}
-use Rattle.simulation.proofs.Showing.{happens_from}
+use Rattle.simulation.proofs.Ranged.{seat_more, issued_seat, resent_seat, taken_seat, request_sent, calls_left, ranged_client, ranged_sent, room_in, in_range}
+use Rattle.simulation.proofs.Sending.{HasNumbers}
 use Rattle.simulation.proofs.Standing.{at_place, read_at}
-use Rattle.simulation.proofs.Taking.{take_happens}
 
 -- ---- the client of a number
 
@@ -71,44 +67,36 @@ some_at clients (suc k) from to = let r = at_place clients k (omega (arith, to))
 
 pub is_numbered : {X : Type 0} {was old : SimulationV X} → was ≡ old → (number : ℕ) → (1 ≤ number) × (number ≤ old.setup.clients) → InRange was → is_some (client_at old.clients number) ≡ true
 is_numbered {X = X} {old = old} same number within ranges =
-    let r = subst (λ (v : SimulationV X). InRange v) same ranges in
-    let all = r.clients'.all in
+    let r = in_range same ranges in
+    let all = r.all in
     let to = within.1 in
     some_at old.clients number within.0 (omega (arith, all, to))
 
+-- the numbers of the client of a number leave room
+has_numbers : {X : Type 0} (sim : SimulationV X) → InRange sim → (k : ℕ) (o : Option ClientV) → slice_get sim.clients k ≡ o → HasNumbers o
+has_numbers sim r k None is = tt
+has_numbers sim r k (Some client) is = calls_left r.events (r.ranges.seats'.at k client is)
+
+pub numbers_at : {X : Type 0} (sim : SimulationV X) → InRange sim → (number : ℕ) → HasNumbers (client_at sim.clients number)
+numbers_at sim r zero = tt
+numbers_at sim r (suc k) = has_numbers sim r k (slice_get sim.clients k) refl
+
 module _ {X : Type 0} {test : Option ClientV → Bool} {sim : SimulationV X} {number : ℕ} {client : ClientV} (at : IsCalled test sim number client) where
   seat : IsSeat sim.setup sim.count (number - 1) client
-  seat = at.ranges.clients'.each.at (number - 1) client at.place
+  seat = at.ranges.ranges.seats'.at (number - 1) client at.place
 
-  pub few_calls : client.seq < CALLS
-  few_calls = let s = seat in let below = s.seq in let few = at.ranges.events in omega (arith, below, few)
+  pub left : (client.seq < CALLS) × HasRoom client.pending
+  left = calls_left at.ranges.events seat
 
   open_call : (pending : Pending) → client.pending ≡ Some pending → IsOpenCall sim.count client.seq pending
   open_call pending busy = let s = seat in subst (IsOpen sim.count client.seq) busy s.pending
 
-  few_attempts : (pending : Pending) → client.pending ≡ Some pending → pending.attempt < ATTEMPTS
-  few_attempts pending busy = let o = open_call pending busy in let below = o.attempts in let few = at.ranges.events in omega (arith, below, few)
-
-  room_of : (p : Option Pending) → client.pending ≡ p → HasRoom p
-  room_of None busy = tt
-  room_of (Some pending) busy = few_attempts pending busy
-
-  pub has_room : HasRoom client.pending
-  has_room = room_of client.pending refl
-
   pub has_pending : (pending : Pending) → client.pending ≡ Some pending → HasPending client.pending
-  has_pending pending busy = let o = open_call pending busy in subst HasPending (sym busy) (well_made_fits pending.call o.made.made, few_attempts pending busy)
+  has_pending pending busy = let o = open_call pending busy in subst HasPending (sym busy) (well_made_fits pending.call o.made.made, subst HasRoom busy left.1)
 
-  numbered : client.number ≡ number
-  numbered = let s = seat in let e = s.number in let f = at.from_one in omega (arith, e, f)
-
-  -- the client is this one then
-  pub client_ranged : (next : ClientV) → IsSeat sim.setup (sim.count + 1) (number - 1) next → AreRanges sim.setup sim.moment (sim.count + 1) sim.stores (slice_set sim.clients (number - 1) next) sim.sent
-  client_ranged next s = ranged_client at.ranges at.room (number - 1) next sim.sent s at.ranges.sent'
-
-  -- it stayed as it was
-  pub stayed_ranged : (next : ClientV) → next ≡ client → AreRanges sim.setup sim.moment (sim.count + 1) sim.stores (slice_set sim.clients (number - 1) next) sim.sent
-  stayed_ranged next same = client_ranged next (subst (IsSeat sim.setup (sim.count + 1) (number - 1)) (sym same) (seat_more sim.setup sim.count (number - 1) client seat))
+  -- the client stayed as it was
+  pub stayed_ranged : (next : ClientV) → next ≡ client → IsRanged sim.setup sim.moment (sim.count + 1) sim.stores (slice_set sim.clients (number - 1) next) sim.sent
+  stayed_ranged next same = ranged_client at.ranges at.room (number - 1) next (subst (IsSeat sim.setup (sim.count + 1) (number - 1)) (sym same) (seat_more sim.setup sim.count (number - 1) client seat))
 
 -- ---- a client sends a message
 
@@ -126,13 +114,15 @@ module _ {X : Type 0} {test : Option ClientV → Bool} {sim : SimulationV X} {nu
   sends : (next : ClientV) (seq attempt : ℕ) (call : Call) → IsSeat sim.setup (sim.count + 1) (number - 1) next → 1 ≤ seq → seq < 2 ^ 64 → IsWellMade call → IsSending sim number next (request_of client seq attempt call)
   sends next seq attempt call s from below made =
       let there = within sim.clients (number - 1) client at.place in
-      let all = at.ranges.clients'.all in
+      let all = at.ranges.all in
+      let e = (seat at).number in
+      let f = at.from_one in
       record {
         ranges = at.ranges;
         room = at.room;
         seat' = s;
-        good = request_sent sim.setup sim.count (number - 1) client seq attempt call at.ranges.setup' (omega (arith, there, all)) (seat at) from below made;
-        asks = eq-eqb client.number number (numbered at);
+        good = request_sent sim.setup sim.count (number - 1) client seq attempt call at.ranges.ranges.setup' (omega (arith, there, all)) (seat at) from below made;
+        asks = eq-eqb client.number number (omega (arith, e, f));
         server = _;
         is = refl;
       }
@@ -187,9 +177,9 @@ with_sent was number next sent waiting = record was { count = was.count + 1; cli
 
 module _ {X : Type 0} {was old : SimulationV X} (same : was ≡ old) {number : ℕ} {next : ClientV} {msg : Msg} (s : IsSending was number next msg) where
   pub send_ranged : (result : Result ℕ AllocError) (sent' : List Msg) (waiting' : set.FinSet waiting_cmp) → IsSend result was.sent sent' was.waiting waiting' msg
-      → AreRanges was.setup was.moment (was.count + 1) was.stores (slice_set was.clients (number - 1) next) sent'
-  send_ranged (Ok place) sent' waiting' did = ranged_client s.ranges s.room (number - 1) next sent' s.seat' (subst (AreSent was.setup) (sym did.stands) (each_push msg s.ranges.sent' s.good))
-  send_ranged (Err e) sent' waiting' did = ranged_client s.ranges s.room (number - 1) next sent' s.seat' (subst (AreSent was.setup) (sym did.err) s.ranges.sent')
+      → IsRanged was.setup was.moment (was.count + 1) was.stores (slice_set was.clients (number - 1) next) sent'
+  send_ranged (Ok place) sent' waiting' did = subst (IsRanged was.setup was.moment (was.count + 1) was.stores (slice_set was.clients (number - 1) next)) (sym did.stands) (ranged_sent s.ranges s.room (number - 1) next msg s.seat' s.good)
+  send_ranged (Err e) sent' waiting' did = subst (IsRanged was.setup was.moment (was.count + 1) was.stores (slice_set was.clients (number - 1) next)) (sym did.err) (ranged_client s.ranges s.room (number - 1) next s.seat')
 
   pub send_place : (result : Result ℕ AllocError) (sent' : List Msg) (waiting' : set.FinSet waiting_cmp) → IsSend result was.sent sent' was.waiting waiting' msg
       → IfOk result (λ place. (place ≡ length old.sent) × (length sent' ≡ place + 1))
@@ -217,37 +207,10 @@ module _ {X : Type 0} {was old : SimulationV X} (same : was ≡ old) {number : �
       ap (λ l. with_sent was number next l waiting') did.stands ∙ ap (with_sent was number next (was.sent ++ msg ∷ [])) did.waits ∙ is ∙ ap f same
   send_after (Err e) sent' waiting' did f is = tt
 
--- from a function of a simulation to what a call that was answered says
-pub happens_after : {X : Type 0} {was old new : SimulationV X} (same : was ≡ old) (seen : X → Contents) (images : X → Image → Type 0) (event : Event) (f : SimulationV X → SimulationV X) → Happens seen images was (f was) event → new ≡ f old → Happens seen images old new event
-happens_after {X = X} {old = old} same seen images event f happens after =
-    subst (λ n. Happens seen images old n event) (sym after) (subst (λ (v : SimulationV X). Happens seen images v (f v) event) same happens)
-
-pub on_happens : {X : Type 0} {T E : Type 0} {was old : SimulationV X} (same : was ≡ old) (new : SimulationV X) (seen : X → Contents) (images : X → Image → Type 0) (event : Event) (result : Result T E) (f : SimulationV X → SimulationV X)
-    → Happens seen images was (f was) event → OnOk result (new ≡ f old) → OnOk result (Happens seen images old new event)
-on_happens same new seen images event (Ok x) f happens after = happens_after same seen images event f happens after
-on_happens same new seen images event (Err e) f happens after = tt
-
--- ---- that a simulation shows a run with one event more, a lemma for each function
-
-module _ {X : Type 0} (seen : X → Contents) (images : X → Image → Type 0) {sim : SimulationV X} {number : ℕ} {client : ClientV} where
-  pub issued_happens : (at : IsCalled is_idle sim number client) (call : Call) → is_call call ≡ true → Happens seen images sim (issued_by sim number call) (Issue number call)
-  issued_happens at call served =
-      subst (λ v. Happens seen images sim v (Issue number call)) (sym (ap (issued_as sim number call) at.is))
-      (issue_happens seen images sim number client call at.is (idle at) (few_calls at) served)
-
-  pub resent_happens : (at : IsCalled is_busy sim number client) → Happens seen images sim (resent_by sim number) (Resend number)
-  resent_happens at =
-      let p = busy at in
-      subst (λ v. Happens seen images sim v (Resend number)) (sym (ap (resent_as sim number) at.is ∙ ap (resent_open sim number client) p.1))
-      (resend_happens seen images sim number client p.0 at.is p.1 (few_calls at) (few_attempts at p.0 p.1))
-
-  pub taken_happens : (at : IsCalled is_some sim number client) (place : ℕ) (msg : Msg) → slice_get sim.sent place ≡ Some msg → is_for_client number (Some msg) ≡ true → Happens seen images sim (taken_by sim number place) (Take number place)
-  taken_happens at place msg there meant =
-      subst (λ v. Happens seen images sim v (Take number place)) (sym (took_is at place msg there))
-      (take_happens seen images sim number place client msg at.is there meant (few_calls at) (has_room at))
-    where
-      took_is : IsCalled is_some sim number client → (place : ℕ) (msg : Msg) → slice_get sim.sent place ≡ Some msg → taken_by sim number place ≡ took_by sim number place (taking.take client msg)
-      took_is at place msg there = ap (λ o. taken_as sim number place o (slice_get sim.sent place)) at.is ∙ ap (taken_as sim number place (Some client)) there
+-- what a call that was answered says, by the function that it is
+pub happens_after : {X : Type 0} {T E : Type 0} (seen : X → Contents) (images : X → Image → Type 0) (old new next : SimulationV X) (event : Event) (result : Result T E) → OnOk result (new ≡ next) → Happens seen images old next event → OnOk result (Happens seen images old new event)
+happens_after seen images old new next event (Ok x) after happens = subst (λ n. Happens seen images old n event) (sym after) happens
+happens_after seen images old new next event (Err e) after happens = tt
 
 -- ---- a client takes a message
 
@@ -255,13 +218,9 @@ module _ {X : Type 0} (seen : X → Contents) (images : X → Image → Type 0) 
 abbrev pub with_taken : {X : Type 0} → SimulationV X → ℕ → ClientV → set.FinSet nat_cmp → SimulationV X
 with_taken was number next places = record was { count = was.count + 1; clients = slice_set was.clients (number - 1) next; taken = places }
 
--- the message at a place is for the client
-pub meant_for : {X : Type 0} {was old : SimulationV X} → was ≡ old → (number place : ℕ) (msg : Msg) → is_for_client number (slice_get old.sent place) ≡ true → slice_get was.sent place ≡ Some msg → is_for_client number (Some msg) ≡ true
-meant_for {X = X} same number place msg meant there = ap (is_for_client number) (sym there) ∙ subst (λ (v : SimulationV X). is_for_client number (slice_get v.sent place) ≡ true) (sym same) meant
-
 module _ {X : Type 0} {was old : SimulationV X} (same : was ≡ old) {number : ℕ} {client : ClientV} (at : IsCalled is_some was number client) (place : ℕ) (msg : Msg) (there : slice_get was.sent place ≡ Some msg) (next : ClientV) (taken : Taken) (took : taking.IsTaken (taking.take client msg) taken next) where
-  pub took_ranged : AreRanges was.setup was.moment (was.count + 1) was.stores (slice_set was.clients (number - 1) next) was.sent
-  took_ranged = client_ranged at next (subst (IsSeat was.setup (was.count + 1) (number - 1)) (sym took.client') (taken_seat was.setup was.count (number - 1) client (seat at) msg))
+  pub took_ranged : IsRanged was.setup was.moment (was.count + 1) was.stores (slice_set was.clients (number - 1) next) was.sent
+  took_ranged = ranged_client at.ranges at.room (number - 1) next (subst (IsSeat was.setup (was.count + 1) (number - 1)) (sym took.client') (taken_seat was.setup was.count (number - 1) client (seat at) msg))
 
   pub took_said : taken_of (client_at old.clients number) (slice_get old.sent place) ≡ Some taken
   took_said =

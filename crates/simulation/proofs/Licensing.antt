@@ -30,9 +30,6 @@ module _ {D : Type 0} (faults : D → ℕ) where
       paid_on (inl p) (inr q) = inr q
       paid_on (inr p) (inr q) = inr q
 
-  pub are_licensed_on : (a b c : List (Store (Fused D))) (m n f g : ℕ → ℕ) → AreLicensed faults a b m f → AreLicensed faults b c n g → AreLicensed faults a c (λ s. m s + n s) (λ s. f s + g s)
-  are_licensed_on a b c m n f g one two s = licensed_on (slice_get a s) (slice_get b s) (slice_get c s) (m s) (n s) (f s) (g s) (one s) (two s)
-
   pub are_licensed_same : (old new : List (Store (Fused D))) → new ≡ old → AreLicensed faults old new none_at none_at
   are_licensed_same old new same s = licensed_same (slice_get old s) (slice_get new s) (ap (λ l. slice_get l s) same)
 

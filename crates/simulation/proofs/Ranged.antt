@@ -2,9 +2,8 @@
 use Rattle.std.proofs.Common.{◌≡◌, ◌∙◌, sym, ap, subst, refl, ℕ, ◌+◌, ◌<◌, ◌≤◌, ◌^◌, ◌%◌, Bool, true, false, List, [], ◌∷◌, ◌++◌, Option, Some, None, arith}
 use Rattle.std.specs.Prelude.{slice_set}
 use Rattle.std.specs.List.{slice_get}
-use Rattle.std.proofs.lemmas.List.{append-nil}
 use Rattle.std.proofs.lemmas.Nat.{mod_below}
-use Rattle.mds_base.specs.declared.limits.TheConstants.{EVENTS, MOMENTS}
+use Rattle.mds_base.specs.declared.limits.TheConstants.{CALLS, EVENTS, MOMENTS}
 use Rattle.mds_base.specs.declared.ask.Ask.{Ask}
 use Rattle.mds_base.specs.declared.call.Call.{Call}
 use Rattle.mds_base.specs.declared.reply.Reply.{Reply}
@@ -13,7 +12,7 @@ use Rattle.records.specs.declared.msg.Msg.{Msg}
 use Rattle.records.specs.declared.msg.Msg.TheVariants.{Request, Redirect, Answer, Busy, Held, Page, Closed, Transfer, Installed}
 use Rattle.bitmap.specs.Bits.{Bits}
 use Rattle.client_core.specs.declared.client.Pending.{Pending}
-use Rattle.client_core.specs.Clients.{ClientV, target_of, issued, resent, merged, request_of}
+use Rattle.client_core.specs.Clients.{ClientV, HasRoom, target_of, issued, resent, merged, request_of}
 use Rattle.mds_base.specs.Calls.{dir_of}
 use Rattle.client_core.specs.Taking.{take, take_at, take_pending, answered_if, redirected_if, busy_if, held_if}
 use Rattle.node_core.specs.Nodes.{StoreV}
@@ -21,12 +20,16 @@ use Rattle.node_core.specs.Rules.{Outcome, Silent, Looks, Repeats, Carries, outc
 use Rattle.node_core.specs.Serving.{serve, serve_request, served_as}
 use Rattle.node_store.specs.Serve.{IsWellMade}
 use Rattle.node_store.specs.Store.{Store}
-use Rattle.mds_base.proofs.Grow.{each_push, each_map, each_set, length_set}
+use Rattle.mds_base.specs.Lists.{Each}
+use Rattle.mds_base.proofs.Grow.{each_push, each_set, length_set}
+use Rattle.mds_base.proofs.Lists.{each_none}
+use Rattle.world.specs.Ranges.{AreRanges}
+use Rattle.world.proofs.Ranges.{seat_set, seats_mapped, msg_sent, msgs_sent, later}
 use Rattle.mds_base.specs.Setups.{IsSetup}
 use Rattle.simulation.specs.declared.servers.Served.{Served}
 use Rattle.simulation.specs.declared.servers.Served.TheVariants as serves
 use Rattle.simulation.specs.Moves.{sent_after}
-use Rattle.simulation.specs.Ranges.{IsOpenCall, IsOpen, IsSeat, IsSent, AreStores, AreSeats, AreSent, AreRanges}
+use Rattle.simulation.specs.Ranges.{IsOpenCall, IsOpen, IsSeat, IsSent, AreStores, IsRanged, InRange}
 use Rattle.simulation.specs.Shows.{SimulationV}
 
 -- Clients
@@ -112,29 +115,38 @@ request_sent setup count k client seq attempt call ranges there s from below mad
   };
 }
 
+-- the number of a client's call, and that of its attempt, leave room
+pub calls_left : {setup : Setup} {count k : ℕ} {client : ClientV} → count ≤ EVENTS → IsSeat setup count k client → (client.seq < CALLS) × HasRoom client.pending
+calls_left {count = count} {client = client} few s = (omega (arith, few, s.seq), room_in_call client.pending s.pending)
+  where
+    room_in_call : (p : Option Pending) → IsOpen count client.seq p → HasRoom p
+    room_in_call None o = tt
+    room_in_call (Some pending) o = omega (arith, few, o.attempts)
+
 -- Messages that a server sends
 
-module _ (setup : Setup) (sent : List Msg) (good : AreSent setup sent) where
-  sent_none : AreSent setup (sent ++ [])
-  sent_none = subst (AreSent setup) (sym (append-nil sent)) good
+module _ (servers : ℕ) where
+  answers : (store : StoreV) (ask : Ask) (o : Outcome) → Each (served_as store ask o).outputs (λ k msg. IsSent servers msg)
+  answers store ask Silent = each_none
+  answers store ask (Looks reply) = each_push {xs = []} _ each_none (record { there = tt; made = tt })
+  answers store ask (Repeats said) = each_push {xs = []} _ each_none (record { there = tt; made = tt })
+  answers store ask (Carries said) = each_push {xs = []} _ each_none (record { there = tt; made = tt })
 
-  as_sent : (store : StoreV) (ask : Ask) (o : Outcome) → AreSent setup (sent ++ (served_as store ask o).outputs)
-  as_sent store ask Silent = sent_none
-  as_sent store ask (Looks reply) = each_push _ good (record { there = tt; made = tt })
-  as_sent store ask (Repeats said) = each_push _ good (record { there = tt; made = tt })
-  as_sent store ask (Carries said) = each_push _ good (record { there = tt; made = tt })
+  answers_to : (store : StoreV) (request : Option Ask) (now : ℕ) → Each (serve_request store request now).outputs (λ k msg. IsSent servers msg)
+  answers_to store None now = each_none
+  answers_to store (Some ask) now = answers store ask (outcome store ask now)
 
-  asked_sent : (store : StoreV) (request : Option Ask) (now : ℕ) → AreSent setup (sent ++ (serve_request store request now).outputs)
-  asked_sent store None now = sent_none
-  asked_sent store (Some ask) now = as_sent store ask (outcome store ask now)
+module _ {setup : Setup} {now count : ℕ} {clients : List ClientV} {sent : List Msg} (r : AreRanges setup now (IsSeat setup count) clients (IsSent setup.servers) sent) where
+  pub same_sent : (sent' : List Msg) → sent' ≡ sent → AreRanges setup now (IsSeat setup count) clients (IsSent setup.servers) sent'
+  same_sent sent' is = subst (AreRanges setup now (IsSeat setup count) clients (IsSent setup.servers)) (sym is) r
 
-  after_sent : (store : StoreV) (msg : Msg) (now : ℕ) (served : Served) → AreSent setup (sent_after sent (serve store msg now) served)
-  after_sent store msg now serves.Stopped = good
-  after_sent store msg now serves.Silent = asked_sent store (request_in msg) now
-  after_sent store msg now (serves.Answered place) = asked_sent store (request_in msg) now
+  after_sent : (store : StoreV) (msg : Msg) (at : ℕ) (served : Served) → AreRanges setup now (IsSeat setup count) clients (IsSent setup.servers) (sent_after sent (serve store msg at) served)
+  after_sent store msg at serves.Stopped = r
+  after_sent store msg at serves.Silent = msgs_sent r _ (answers_to setup.servers store (request_in msg) at)
+  after_sent store msg at (serves.Answered place) = msgs_sent r _ (answers_to setup.servers store (request_in msg) at)
 
-  pub served_sent : (store : StoreV) (msg : Msg) (now : ℕ) (served : Served) (sent' : List Msg) → sent' ≡ sent_after sent (serve store msg now) served → AreSent setup sent'
-  served_sent store msg now served sent' is = subst (AreSent setup) (sym is) (after_sent store msg now served)
+  pub served_sent : (store : StoreV) (msg : Msg) (at : ℕ) (served : Served) (sent' : List Msg) → sent' ≡ sent_after sent (serve store msg at) served → AreRanges setup now (IsSeat setup count) clients (IsSent setup.servers) sent'
+  served_sent store msg at served sent' is = subst (AreRanges setup now (IsSeat setup count) clients (IsSent setup.servers)) (sym is) (after_sent store msg at served)
 
 -- One part changed
 
@@ -144,33 +156,33 @@ stores_set {stores = stores} k store new are is same = record {
   each = each_set k new are.each (same.0 ∙ (are.each.at k store is).0, same.1 ∙ (are.each.at k store is).1);
 }
 
-seats_more : {setup : Setup} {count : ℕ} {clients : List ClientV} → AreSeats setup count clients → AreSeats setup (count + 1) clients
-seats_more {setup = setup} {count = count} are = record { all = are.all; each = each_map are.each (λ k client s. seat_more setup count k client s) }
-
-seats_set : {setup : Setup} {count : ℕ} {clients : List ClientV} (k : ℕ) (client : ClientV) → AreSeats setup count clients → IsSeat setup count k client → AreSeats setup count (slice_set clients k client)
-seats_set {clients = clients} k client are s = record { all = length_set clients k client ∙ are.all; each = each_set k client are.each s }
-
-module _ {X : Type 0} {setup : Setup} {now count : ℕ} {stores : List (Store X)} {clients : List ClientV} {sent : List Msg} (r : AreRanges setup now count stores clients sent) where
+module _ {X : Type 0} {setup : Setup} {now count : ℕ} {stores : List (Store X)} {clients : List ClientV} {sent : List Msg} (r : IsRanged setup now count stores clients sent) where
   -- no event more
-  pub ranged_still : (stores' : List (Store X)) (sent' : List Msg) → AreStores setup stores' → AreSent setup sent' → AreRanges setup now count stores' clients sent'
-  ranged_still stores' sent' are good = record { setup' = r.setup'; moment = r.moment; events = r.events; stores' = are; clients' = r.clients'; sent' = good }
+  pub ranged_still : (stores' : List (Store X)) (sent' : List Msg) → AreStores setup stores' → AreRanges setup now (IsSeat setup count) clients (IsSent setup.servers) sent' → IsRanged setup now count stores' clients sent'
+  ranged_still stores' sent' are ranges = record { ranges = ranges; all = r.all; events = r.events; stores' = are }
 
   module _ (room : count < EVENTS) where
     -- one event more, of a server
-    pub ranged_event : (stores' : List (Store X)) (sent' : List Msg) → AreStores setup stores' → AreSent setup sent' → AreRanges setup now (count + 1) stores' clients sent'
-    ranged_event stores' sent' are good = record { setup' = r.setup'; moment = r.moment; events = omega (arith, room); stores' = are; clients' = seats_more r.clients'; sent' = good }
+    pub ranged_event : (stores' : List (Store X)) (sent' : List Msg) → AreStores setup stores' → AreRanges setup now (IsSeat setup count) clients (IsSent setup.servers) sent' → IsRanged setup now (count + 1) stores' clients sent'
+    ranged_event stores' sent' are ranges = record { ranges = seats_mapped ranges (IsSeat setup (count + 1)) (seat_more setup count); all = r.all; events = omega (arith, room); stores' = are }
 
     -- of no one
-    pub ranged_count : AreRanges setup now (count + 1) stores clients sent
-    ranged_count = ranged_event stores sent r.stores' r.sent'
+    pub ranged_count : IsRanged setup now (count + 1) stores clients sent
+    ranged_count = ranged_event stores sent r.stores' r.ranges
 
-    pub ranged_moment : (by : ℕ) → now + by < MOMENTS → AreRanges setup (now + by) (count + 1) stores clients sent
-    ranged_moment by below = record { setup' = r.setup'; moment = below; events = omega (arith, room); stores' = r.stores'; clients' = seats_more r.clients'; sent' = r.sent' }
+    pub ranged_moment : (by : ℕ) → now + by < MOMENTS → IsRanged setup (now + by) (count + 1) stores clients sent
+    ranged_moment by below = let c = ranged_count in record { ranges = later c.ranges (now + by) below; all = r.all; events = c.events; stores' = r.stores' }
 
-    -- of a client
-    pub ranged_client : (k : ℕ) (client : ClientV) (sent' : List Msg) → IsSeat setup (count + 1) k client → AreSent setup sent' → AreRanges setup now (count + 1) stores (slice_set clients k client) sent'
-    ranged_client k client sent' s good = record { setup' = r.setup'; moment = r.moment; events = omega (arith, room); stores' = r.stores'; clients' = seats_set k client (seats_more r.clients') s; sent' = good }
+    -- of a client, which sent a message or none
+    pub ranged_client : (k : ℕ) (client : ClientV) → IsSeat setup (count + 1) k client → IsRanged setup now (count + 1) stores (slice_set clients k client) sent
+    ranged_client k client s = let c = ranged_count in record { ranges = seat_set c.ranges k client s; all = length_set clients k client ∙ r.all; events = c.events; stores' = r.stores' }
 
--- there is room for an event
+    pub ranged_sent : (k : ℕ) (client : ClientV) (msg : Msg) → IsSeat setup (count + 1) k client → IsSent setup.servers msg → IsRanged setup now (count + 1) stores (slice_set clients k client) (sent ++ msg ∷ [])
+    ranged_sent k client msg s good = let c = ranged_client k client s in record { ranges = msg_sent c.ranges msg good; all = c.all; events = c.events; stores' = r.stores' }
+
+-- there is room for an event, and the ranges are those of the value
 pub room_in : {X : Type 0} {was old : SimulationV X} → was ≡ old → old.count < EVENTS → was.count < EVENTS
 room_in {X = X} same room = subst (λ (v : SimulationV X). v.count < EVENTS) (sym same) room
+
+pub in_range : {X : Type 0} {was old : SimulationV X} → was ≡ old → InRange was → InRange old
+in_range {X = X} same ranges = subst (λ (v : SimulationV X). InRange v) same ranges

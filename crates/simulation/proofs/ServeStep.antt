@@ -1,5 +1,5 @@
 -- What a Serve says of a simulation.
-use Rattle.std.proofs.Common.{◌≡◌, ◌∙◌, sym, ap, subst, refl, ℕ, ◌+◌, ◌≤◌, true, is_some, List, [], ◌∷◌, ◌++◌, length, get_or, Option, Some, None, Result, Ok, Err, IfOk, OnOk, OnErr, inl, inr, arith}
+use Rattle.std.proofs.Common.{◌≡◌, ◌≢◌, ◌∙◌, sym, ap, subst, refl, ℕ, ◌+◌, ◌≤◌, true, is_some, List, [], ◌∷◌, ◌++◌, length, get_or, Option, Some, None, Result, Ok, Err, IfOk, OnOk, OnErr, inl, inr, arith}
 use Rattle.std.specs.Prelude.{slice_set, ◌⊎◌, IsErrAnd}
 use Rattle.std.specs.List.{slice_get}
 use Rattle.std.specs.FinSet as set
@@ -25,13 +25,12 @@ use Rattle.simulation.specs.Calls.{CanServe, Serves, RepliesTo, IsToServe, IsSer
 use Rattle.simulation.specs.Entries.{changes_of, lookup_of, with_one, ended_first, ended_by}
 use Rattle.simulation.specs.Licences.{IsLicensed, AreLicensed, none_at, stops_in_serve, stops_of_serve}
 use Rattle.simulation.specs.Moves.{sent_after, made_after, served_by}
-use Rattle.simulation.specs.Ranges.{AreRanges}
 use Rattle.simulation.specs.Shows.{SimulationV, Happens, StaysNear, waiting_cmp, server_for, is_up, has_numbers_at}
 use Rattle.simulation.specs.Stores.{IsServedOn, IsStoppedOn, NearServed}
 use Rattle.simulation.proofs.Licensing.{licensed_quiet, licensed_stop, quiet_licensed, stop_licensed}
 use Rattle.simulation.proofs.Serving.{serve_happens, stop_happens, replies_to}
 use Rattle.simulation.proofs.Showing.{stays_near}
-use Rattle.simulation.proofs.Standing.{up_store, numbers_of}
+use Rattle.simulation.proofs.Standing.{up_store, others_stay, numbers_of}
 use Rattle.simulation.proofs.Stopping.{near_after, is_for}
 
 pub on_err : {T E : Type 0} (result : Result T E) (P : Type 0) → P → OnErr result P
@@ -164,6 +163,10 @@ module _ {X : Type 0} {was old : SimulationV X} (same : was ≡ old) {server pla
         after = ap (λ l. with_served was stores l made' waiting') on.sends ∙ ap (λ l. with_served was stores (sent_after was.sent given served) l waiting') on.makes
             ∙ ap (with_served was stores (sent_after was.sent given served) (made_after was.made s.msg given (length was.sent) served)) waits;
       }))
+
+  -- it changes this server alone
+  pub serve_others : (new : Store X) (other : ℕ) → server_for (slice_get old.sent place) ≡ Some other → (k : ℕ) → k ≢ other → slice_get (slice_set was.stores server new) k ≡ slice_get old.stores k
+  serve_others new other meant = subst (λ o. (k : ℕ) → k ≢ o → slice_get (slice_set was.stores server new) k ≡ slice_get old.stores k) (meant_for other meant) (others_stay same server new)
 
   -- a refused one leaves the servers near the run
   pub serve_near : (seen : X → Contents) (images : X → Image → Type 0) (new : Store X) → NearServed seen images store new s.up (serve s.up s.msg was.moment) → StaysNear seen images old (record was { stores = slice_set was.stores server new })

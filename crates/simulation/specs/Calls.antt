@@ -68,6 +68,10 @@ abbrev pub taken_of : Option ClientV → Option Msg → Option Taken
 taken_of (Some client) (Some msg) = Some (taking.take client msg).taken
 taken_of client msg = None
 
+-- only this server changed
+abbrev pub OthersStay : {X : Type 0} → SimulationV X → SimulationV X → ℕ → Type 0
+OthersStay old new server = (other : ℕ) → other ≢ server → slice_get new.stores other ≡ slice_get old.stores other
+
 -- what a Serve of the message at a place comes upon: the server on its disk, up with this, and the message
 pub record IsToServe {X : Type 0} (old : SimulationV X) (server place : ℕ) (store : Store X) (up : StoreV) (msg : Msg) : Type 0 where
   pub is : slice_get old.stores server ≡ Some store

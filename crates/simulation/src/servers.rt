@@ -12,7 +12,7 @@ ghost use Rattle.node_store.specs.Store.{Store, IsDownAt};
 ghost use Rattle.records.specs.declared.msg.Msg.{Msg};
 ghost use Rattle.world.specs.declared.event.Event.TheVariants as Event;
 ghost use Rattle.world.specs.declared.event.StopCause.TheVariants as StopCause;
-ghost use Rattle.simulation.specs.Calls.{CanServe, CanMiss, Serves, ServesOn, IsServe, Restarts, IsRestart};
+ghost use Rattle.simulation.specs.Calls.{CanServe, CanMiss, Serves, ServesOn, IsServe, OthersStay, Restarts, IsRestart};
 ghost use Rattle.simulation.specs.Entries.{change_of, changes_of, looked, lookup_of, only_of, with_one, ended_by};
 ghost use Rattle.simulation.specs.Fuses.{seen_by, images_by};
 ghost use Rattle.simulation.specs.Licences.{IsLicensed, AreLicensed, none_at, stops_in_serve, stops_of_serve, stops_of_restart};
@@ -62,6 +62,7 @@ impl<D: Disk> Simulation<D> {
         ensures after { IfOk result (λ served. (server : ℕ) → server_for (slice_get self.old.sent place) ≡ Some server → IsServe (seen_by D.seen) (images_by D.images) (fused_faults D.faults) self.old self.new server place served) }
         ensures ok { IfOk result (λ served. (server : ℕ) → server_for (slice_get self.old.sent place) ≡ Some server → Serves (seen_by D.seen) (images_by D.images) self.old self.new server place served) }
         ensures err { OnErr result (StaysNear (seen_by D.seen) (images_by D.images) self.old self.new) }
+        ensures others { OnErr result ((server : ℕ) → server_for (slice_get self.old.sent place) ≡ Some server → OthersStay self.old self.new server) }
         ensures licensed { (server : ℕ) → server_for (slice_get self.old.sent place) ≡ Some server → AreLicensed D.faults self.old.stores self.new.stores (stops_of_serve result server) none_at }
         ensures setup { self.new.setup ≡ self.old.setup }
     {
@@ -112,10 +113,12 @@ impl<D: Disk> Simulation<D> {
         ensures after { IfOk result (IsRestart (seen_by D.seen) (images_by D.images) (fused_faults D.faults) self.old self.new server) }
         ensures ok { IfOk result (λ restarted. Restarts (seen_by D.seen) (images_by D.images) self.old self.new server restarted) }
         ensures err { OnErr result (StaysNear (seen_by D.seen) (images_by D.images) self.old self.new) }
+        ensures others { OnErr result (OthersStay self.old self.new server) }
 
         // Where a run is shown, it is refused for want of memory alone.
         ensures fault { IfErr result (λ fault. (run : RunV) → Shows (seen_by D.seen) (images_by D.images) self.old run → fault ≡ StoreFault.OutOfMemory) }
         ensures licensed { AreLicensed D.faults self.old.stores self.new.stores (stops_of_restart result server) none_at }
+        ensures sent { self.new.sent ≡ self.old.sent }
         ensures setup { self.new.setup ≡ self.old.setup }
     {
         let store = &mut self.stores[server as usize];

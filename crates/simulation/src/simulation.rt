@@ -54,7 +54,7 @@ impl<D: Disk> Model for Simulation<D> {
     ghost use Rattle.bitmap.specs.Bits.{coded_bits};
     ghost use Rattle.mds_out.specs.Fused.{Fused};
     ghost use Rattle.simulation.specs.Shows.{SimulationV, waiting_cmp};
-    ghost use Rattle.simulation.specs.Ranges.{AreRanges};
+    ghost use Rattle.simulation.specs.Ranges.{IsRanged};
 
     ghost Value = { SimulationV (Fused D) };
 
@@ -72,7 +72,7 @@ impl<D: Disk> Model for Simulation<D> {
       taken = a.taken;
     } };
 
-    ghost invariant = { λ a. AreRanges a.setup a.moment a.count a.stores.items a.clients.items a.sent × (a.back.items ≡ []) × (a.setup.servers ≤ vec_capacity a.back) };
+    ghost invariant = { λ a. IsRanged a.setup a.moment a.count a.stores.items a.clients.items a.sent × (a.back.items ≡ []) × (a.setup.servers ≤ vec_capacity a.back) };
 }
 
 impl<D: Disk> Simulation<D> {

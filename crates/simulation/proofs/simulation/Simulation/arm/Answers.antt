@@ -14,7 +14,7 @@ pub invariant_of-self : goal.invariant_of-self
 invariant_of-self g c =
     let here = read_within c.self.inside.stores.items c.args.server c.self.inside.setup.servers c.index_mut.result.now c.self.invariant.0.stores'.all (subst (λ (v : SimulationV (Fused g.row.D.Denot)). c.args.server < v.setup.servers) (sym c.self.view_is) c.requires) c.index_mut.ensures.value in
     let r = c.self.invariant.0 in
-    (ranged_still r _ _ (stores_set c.args.server c.index_mut.result.now c.arm.new.self r.stores' here (ap (λ (v : Store (Fused g.row.D.Denot)). v.server) c.arm.ensures, ap (λ (v : Store (Fused g.row.D.Denot)). v.setup) c.arm.ensures)) r.sent', c.self.invariant.1, c.self.invariant.2)
+    (ranged_still r _ _ (stores_set c.args.server c.index_mut.result.now c.arm.new.self r.stores' here (ap (λ (v : Store (Fused g.row.D.Denot)). v.server) c.arm.ensures, ap (λ (v : Store (Fused g.row.D.Denot)). v.setup) c.arm.ensures)) r.ranges, c.self.invariant.1, c.self.invariant.2)
 
 pub returns-clause-setup : goal.returns-clause-setup
 returns-clause-setup g c = ap (λ (v : SimulationV (Fused g.row.D.Denot)). v.setup) c.self.view_is

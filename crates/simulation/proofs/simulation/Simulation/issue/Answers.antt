@@ -4,7 +4,9 @@ use Rattle.simulation.specs.Fuses.{seen_by, images_by}
 use Rattle.simulation.specs.Moves.{issued_by}
 use Rattle.simulation.specs.Shows.{is_idle}
 use Rattle.world.specs.declared.event.Event.TheVariants.{Issue}
-use Rattle.simulation.proofs.ClientStep.{called, seat_below, idle, few_calls, stayed_ranged, issuing, issued_is, issued_happens, send_ranged, send_place, send_request, send_after, on_happens}
+use Rattle.simulation.proofs.ClientStep.{called, seat_below, idle, left, numbers_at, stayed_ranged, issuing, issued_is, send_ranged, send_place, send_request, send_after, happens_after}
+use Rattle.simulation.proofs.Ranged.{in_range}
+use Rattle.simulation.proofs.Sending.{issued_happens}
 use Rattle.simulation.proofs.simulation.Simulation.issue.Goals as goal
 
 pub index_mut-requires : goal.index_mut-requires
@@ -14,7 +16,7 @@ pub issue-requires-clause-idle : goal.issue-requires-clause-idle
 issue-requires-clause-idle g c = idle (called c.self.view_is is_idle c.args.client c.index_mut.result.now c.self.invariant.0 c.requires.room refl c.requires.free c.index_mut.ensures.value)
 
 pub issue-requires-clause-room : goal.issue-requires-clause-room
-issue-requires-clause-room g c = few_calls (called c.self.view_is is_idle c.args.client c.index_mut.result.now c.self.invariant.0 c.requires.room refl c.requires.free c.index_mut.ensures.value)
+issue-requires-clause-room g c = (left (called c.self.view_is is_idle c.args.client c.index_mut.result.now c.self.invariant.0 c.requires.room refl c.requires.free c.index_mut.ensures.value)).0
 
 pub issue-requires-clause-fits : goal.issue-requires-clause-fits
 issue-requires-clause-fits g c = well_made_fits c.args.call c.requires.made.made
@@ -50,6 +52,5 @@ returns-clause-after g c =
 
 pub returns-clause-ok : goal.returns-clause-ok
 returns-clause-ok g c =
-    let at = called c.self.view_is is_idle c.args.client c.index_mut.result.now c.self.invariant.0 c.requires.room refl c.requires.free c.index_mut.ensures.value in
-    on_happens c.self.view_is _ (seen_by g.D.Disk.seen) (images_by g.D.Disk.images) (Issue c.args.client c.args.call) c.send.result (λ v. issued_by v c.args.client c.args.call)
-    (issued_happens (seen_by g.D.Disk.seen) (images_by g.D.Disk.images) at c.args.call c.requires.served) (returns-clause-after g c)
+    happens_after (seen_by g.D.Disk.seen) (images_by g.D.Disk.images) c.args.self.now _ _ (Issue c.args.client c.args.call) c.send.result (returns-clause-after g c)
+    (issued_happens (seen_by g.D.Disk.seen) (images_by g.D.Disk.images) c.args.self.now c.args.client (numbers_at c.args.self.now (in_range c.self.view_is c.self.invariant.0) c.args.client) c.args.call c.requires.free c.requires.served)

@@ -3,7 +3,9 @@ use Rattle.simulation.specs.Fuses.{seen_by, images_by}
 use Rattle.simulation.specs.Moves.{resent_by}
 use Rattle.simulation.specs.Shows.{is_busy}
 use Rattle.world.specs.declared.event.Event.TheVariants.{Resend}
-use Rattle.simulation.proofs.ClientStep.{called, seat_below, busy, again, has_pending, stayed_ranged, resending, resent_is, resent_happens, send_ranged, send_place, send_request, send_after, on_happens}
+use Rattle.simulation.proofs.ClientStep.{called, seat_below, busy, again, has_pending, stayed_ranged, resending, resent_is, numbers_at, send_ranged, send_place, send_request, send_after, happens_after}
+use Rattle.simulation.proofs.Ranged.{in_range}
+use Rattle.simulation.proofs.Sending.{resent_happens}
 use Rattle.simulation.proofs.simulation.Simulation.resend.Goals as goal
 
 pub index_mut-requires : goal.index_mut-requires
@@ -46,6 +48,5 @@ returns-clause-after g c =
 
 pub returns-clause-ok : goal.returns-clause-ok
 returns-clause-ok g c =
-    let at = called c.self.view_is is_busy c.args.client c.index_mut.result.now c.self.invariant.0 c.requires.room refl c.requires.busy c.index_mut.ensures.value in
-    on_happens c.self.view_is _ (seen_by g.D.Disk.seen) (images_by g.D.Disk.images) (Resend c.args.client) c.send.result (λ v. resent_by v c.args.client)
-    (resent_happens (seen_by g.D.Disk.seen) (images_by g.D.Disk.images) at) (returns-clause-after g c)
+    happens_after (seen_by g.D.Disk.seen) (images_by g.D.Disk.images) c.args.self.now _ _ (Resend c.args.client) c.send.result (returns-clause-after g c)
+    (resent_happens (seen_by g.D.Disk.seen) (images_by g.D.Disk.images) c.args.self.now c.args.client (numbers_at c.args.self.now (in_range c.self.view_is c.self.invariant.0) c.args.client) c.requires.busy)

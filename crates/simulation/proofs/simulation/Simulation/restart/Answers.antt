@@ -6,19 +6,22 @@ use Rattle.simulation.specs.Fuses.{seen_by, images_by}
 use Rattle.simulation.proofs.Ranged.{ranged_event, ranged_still, room_in, stores_set}
 use Rattle.simulation.proofs.RestartStep.{mended_ends, mended_near, mended_sound, restart_quiet, restart_ends, restart_after, restart_near, restart_sound, restart_licensed, unrestarted_licensed, restarts_of}
 use Rattle.simulation.proofs.ServeStep.{on_err}
-use Rattle.simulation.proofs.Standing.{down_store}
+use Rattle.simulation.proofs.Standing.{down_store, others_stay}
 use Rattle.simulation.proofs.simulation.Simulation.restart.Goals as goal
 
 pub invariant_of-self : goal.invariant_of-self
 invariant_of-self g c =
     let s = down_store c.self.view_is c.args.server c.index_mut-store.result.now c.index_mut-store.ensures.value c.self.invariant.0.stores'.all c.requires.down in
     let r = c.self.invariant.0 in
-    (ranged_still r _ _ (stores_set c.args.server c.index_mut-store.result.now c.revive.new.store r.stores' s.is (c.revive.ensures.same.0 ∙ ap (λ (v : Store (Fused g.row.D.Denot)). v.server) c.mend.ensures, c.revive.ensures.same.1 ∙ ap (λ (v : Store (Fused g.row.D.Denot)). v.setup) c.mend.ensures)) r.sent', c.self.invariant.1, c.self.invariant.2)
+    (ranged_still r _ _ (stores_set c.args.server c.index_mut-store.result.now c.revive.new.store r.stores' s.is (c.revive.ensures.same.0 ∙ ap (λ (v : Store (Fused g.row.D.Denot)). v.server) c.mend.ensures, c.revive.ensures.same.1 ∙ ap (λ (v : Store (Fused g.row.D.Denot)). v.setup) c.mend.ensures)) r.ranges, c.self.invariant.1, c.self.invariant.2)
 
 pub returns-in_err-restarted-clause-err : goal.returns-in_err-restarted-clause-err
 returns-in_err-restarted-clause-err g c =
     let s = down_store c.self.view_is c.args.server c.index_mut-store.result.now c.index_mut-store.ensures.value c.self.invariant.0.stores'.all c.requires.down in
     on_err _ _ (restart_near c.self.view_is s c.revive.new.store (seen_by g.D.Disk.seen) (images_by g.D.Disk.images) (mended_near g.D.Disk.seen g.D.Disk.images g.D.Disk.faults c.index_mut-store.result.now c.mend.new.self c.revive.new.store c.mend.ensures c.self.inside.moment c.in_err-restarted.ensures.err))
+
+pub returns-in_err-restarted-clause-others : goal.returns-in_err-restarted-clause-others
+returns-in_err-restarted-clause-others g c = on_err _ _ (others_stay c.self.view_is c.args.server c.revive.new.store)
 
 pub returns-in_err-restarted-clause-fault : goal.returns-in_err-restarted-clause-fault
 returns-in_err-restarted-clause-fault g c =
@@ -36,7 +39,7 @@ pub invariant_of-self-2 : goal.invariant_of-self-2
 invariant_of-self-2 g c =
     let s = down_store c.self.view_is c.args.server c.index_mut-store.result.now c.index_mut-store.ensures.value c.self.invariant.0.stores'.all c.requires.down in
     let r = c.self.invariant.0 in
-    (ranged_event r (room_in c.self.view_is c.requires.room) _ _ (stores_set c.args.server c.index_mut-store.result.now c.revive.new.store r.stores' s.is (c.revive.ensures.same.0 ∙ ap (λ (v : Store (Fused g.row.D.Denot)). v.server) c.mend.ensures, c.revive.ensures.same.1 ∙ ap (λ (v : Store (Fused g.row.D.Denot)). v.setup) c.mend.ensures)) r.sent', c.self.invariant.1, c.self.invariant.2)
+    (ranged_event r (room_in c.self.view_is c.requires.room) _ _ (stores_set c.args.server c.index_mut-store.result.now c.revive.new.store r.stores' s.is (c.revive.ensures.same.0 ∙ ap (λ (v : Store (Fused g.row.D.Denot)). v.server) c.mend.ensures, c.revive.ensures.same.1 ∙ ap (λ (v : Store (Fused g.row.D.Denot)). v.setup) c.mend.ensures)) r.ranges, c.self.invariant.1, c.self.invariant.2)
 
 pub returns-clause-after : goal.returns-clause-after
 returns-clause-after g c =

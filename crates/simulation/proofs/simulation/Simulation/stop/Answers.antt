@@ -21,7 +21,7 @@ pub invariant_of-self : goal.invariant_of-self
 invariant_of-self g c =
     let s = up_store c.self.view_is c.args.server c.index_mut.result.now c.index_mut.ensures.value c.requires.up.1 in
     let r = c.self.invariant.0 in
-    (ranged_event r (room_in c.self.view_is c.requires.room) _ _ (stores_set c.args.server c.index_mut.result.now c.halt.new.self r.stores' s.is (ap (λ (v : Store (Fused g.row.D.Denot)). v.server) c.halt.ensures.stopped, ap (λ (v : Store (Fused g.row.D.Denot)). v.setup) c.halt.ensures.stopped)) r.sent', c.self.invariant.1, c.self.invariant.2)
+    (ranged_event r (room_in c.self.view_is c.requires.room) _ _ (stores_set c.args.server c.index_mut.result.now c.halt.new.self r.stores' s.is (ap (λ (v : Store (Fused g.row.D.Denot)). v.server) c.halt.ensures.stopped, ap (λ (v : Store (Fused g.row.D.Denot)). v.setup) c.halt.ensures.stopped)) r.ranges, c.self.invariant.1, c.self.invariant.2)
 
 pub returns-clause-after : goal.returns-clause-after
 returns-clause-after g c =

@@ -1,14 +1,16 @@
-use Rattle.std.proofs.Common.{sym, refl, is_some}
+use Rattle.std.proofs.Common.{sym, refl, subst, is_some}
 use Rattle.simulation.specs.Fuses.{seen_by, images_by}
-use Rattle.simulation.specs.Moves.{taken_by}
+use Rattle.simulation.specs.Shows.{Happens}
 use Rattle.world.specs.declared.event.Event.TheVariants.{Take}
-use Rattle.simulation.proofs.ClientStep.{called, is_numbered, has_room, meant_for, stayed_ranged, took_ranged, took_said, took_after, taken_happens, happens_after}
+use Rattle.simulation.proofs.ClientStep.{called, is_numbered, left, numbers_at, stayed_ranged, took_ranged, took_said, took_after}
+use Rattle.simulation.proofs.Ranged.{in_range}
+use Rattle.simulation.proofs.Taking.{taken_happens}
 use Rattle.simulation.proofs.simulation.Simulation.take.Goals as goal
 
 pub take-requires : goal.take-requires
 take-requires g c =
     let at = called c.self.view_is is_some c.args.client c.index_mut.result.now c.self.invariant.0 c.requires.room refl (is_numbered c.self.view_is c.args.client c.requires.client c.self.invariant.0) c.index_mut.ensures.value in
-    has_room at
+    (left at).1
 
 pub invariant_of-self : goal.invariant_of-self
 invariant_of-self g c =
@@ -37,7 +39,5 @@ returns-clause-after g c =
 
 pub returns-clause-ok : goal.returns-clause-ok
 returns-clause-ok g c =
-    let at = called c.self.view_is is_some c.args.client c.index_mut.result.now c.self.invariant.0 c.requires.room refl (is_numbered c.self.view_is c.args.client c.requires.client c.self.invariant.0) c.index_mut.ensures.value in
-    let there = sym c.in-Some.ensures in
-    happens_after c.self.view_is (seen_by g.D.Disk.seen) (images_by g.D.Disk.images) (Take c.args.client c.args.place) (λ v. taken_by v c.args.client c.args.place)
-    (taken_happens (seen_by g.D.Disk.seen) (images_by g.D.Disk.images) at c.args.place c.in-Some.msg.now there (meant_for c.self.view_is c.args.client c.args.place c.in-Some.msg.now c.requires.message there)) (returns-clause-after g c)
+    subst (λ n. Happens (seen_by g.D.Disk.seen) (images_by g.D.Disk.images) c.args.self.now n (Take c.args.client c.args.place)) (sym (returns-clause-after g c))
+    (taken_happens (seen_by g.D.Disk.seen) (images_by g.D.Disk.images) c.args.self.now c.args.client (numbers_at c.args.self.now (in_range c.self.view_is c.self.invariant.0) c.args.client) c.args.place (is_numbered c.self.view_is c.args.client c.requires.client c.self.invariant.0) c.requires.message)
