@@ -226,11 +226,13 @@ module _ (b : Builder) (full : List (List TableRow)) (rows : List TableRow) (see
           let counts_are : counts ≡ counts_spelling full = ap (λ n. to_be_bytes w32 n ++ to_be_bytes w64 b.number) builds.written ∙ ap (λ n. to_be_bytes w32 (length full) ++ to_be_bytes w64 n) (builds.number ∙ ap length rows_same) in
           record {
             blocks = full;
-            are = are_blocks;
+            has = record {
+              are = are_blocks;
+              bytes_are = told ∙ ap (λ l. blocks_spelling full ++ l) tail_is ∙ sym (append_assoc (blocks_spelling full) counts sum')
+                  ∙ ap (λ l. (blocks_spelling full ++ counts) ++ l) sum_is ∙ ap (λ l. (blocks_spelling full ++ l) ++ md5 (blocks_spelling full ++ l)) counts_are;
+              firsts = firsts ∙ builds.firsts;
+            };
             rows_are = rows_same;
-            bytes_are = told ∙ ap (λ l. blocks_spelling full ++ l) tail_is ∙ sym (append_assoc (blocks_spelling full) counts sum')
-                ∙ ap (λ l. (blocks_spelling full ++ counts) ++ l) sum_is ∙ ap (λ l. (blocks_spelling full ++ l) ++ md5 (blocks_spelling full ++ l)) counts_are;
-            firsts = firsts ∙ builds.firsts;
           }
 
   pub blocks_reach : (table : TableState) → table.firsts ≡ b.firsts.items → 4096 * length table.firsts ≤ 4096 * b.written

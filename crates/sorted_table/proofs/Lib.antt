@@ -9,4 +9,5 @@ pub mod Opens
 pub mod Elsewhere
 pub mod Builds
 pub mod Looking
+pub mod BlockThere
 pub mod Unique

@@ -234,7 +234,7 @@ located before ((row ∷ rows) ∷ (next ∷ nexts) ∷ blocks) key (suc place) 
 
 -- ---- the bytes of a block
 
-block_bytes : (blocks : List (List TableRow)) (tail : List ℕ) (place : ℕ) (block : List TableRow) → AreSound blocks → slice_get blocks place ≡ Some block → take 4096 (drop (4096 * place) (blocks_spelling blocks ++ tail)) ≡ block_spelling block
+pub block_bytes : (blocks : List (List TableRow)) (tail : List ℕ) (place : ℕ) (block : List TableRow) → AreSound blocks → slice_get blocks place ≡ Some block → take 4096 (drop (4096 * place) (blocks_spelling blocks ++ tail)) ≡ block_spelling block
 block_bytes [] tail place block sound at = absurd cc
 block_bytes (b ∷ blocks) tail zero block sound at =
     let same : b ≡ block = cc in
@@ -250,6 +250,11 @@ block_bytes (b ∷ blocks) tail (suc place) block sound at =
     ∙ ap (take 4096) (sym (drop-drop (4096 * place) 4096 (block_spelling b ++ rest)))
     ∙ ap (λ l. take 4096 (drop (4096 * place) l)) (drop_at (block_spelling b) rest 4096 (block_length b sound.0.0))
     ∙ block_bytes blocks tail place block sound.1 at
+
+pub sound_at : (blocks : List (List TableRow)) (k : ℕ) (b : List TableRow) → AreSound blocks → slice_get blocks k ≡ Some b → (block_size b ≤ 4096) × AllByRecursion IsRow b
+sound_at [] k b sound at = absurd cc
+sound_at (x ∷ blocks) zero b sound at = let same : x ≡ b = cc in subst (λ (y : List TableRow). (block_size y ≤ 4096) × AllByRecursion IsRow y) same sound.0
+sound_at (x ∷ blocks) (suc k) b sound at = sound_at blocks k b sound.1 at
 
 -- ---- places
 
@@ -302,18 +307,18 @@ module _ (table : TableState) (key : RowKey) where
   point : (rows : List TableRow) (bytes : List ℕ) (upto : ℕ) → HasRows table rows bytes → Parts key table.firsts upto → IsUpto key table.firsts upto
   point rows bytes upto has parts =
       let P : List RowKey → Type 0 = IsPartitionedBy (λ first. is_le (row_key_cmp first key)) in
-      parts (subst P (sym has.firsts) (parted 4096 has.blocks key has.are.filled has.are.rise))
+      parts (subst P (sym has.has.firsts) (parted 4096 has.blocks key has.has.are.filled has.has.are.rise))
 
   over_keys : (rows : List TableRow) (bytes : List ℕ) (upto : ℕ) (has : HasRows table rows bytes) → IsUpto key table.firsts upto → KeysOver (drop upto (first_keys has.blocks)) key
   unfolding KeysOver
   over_keys rows bytes upto has is =
-      subst (λ firsts. AllByRecursion (λ first. is_le (row_key_cmp first key) ≡ false) (drop upto firsts)) has.firsts
+      subst (λ firsts. AllByRecursion (λ first. is_le (row_key_cmp first key) ≡ false) (drop upto firsts)) has.has.firsts
       (all_dropped (λ first. is_le (row_key_cmp first key) ≡ false) table.firsts upto (λ k d le within. is.1 k d le within))
 
   under_keys : (rows : List TableRow) (bytes : List ℕ) (upto : ℕ) (has : HasRows table rows bytes) → IsUpto key table.firsts upto → KeysUnder (take upto (first_keys has.blocks)) key
   unfolding KeysUnder
   under_keys rows bytes upto has is =
-      subst (λ firsts. AllByRecursion (λ first. is_le (row_key_cmp first key) ≡ true) (take upto firsts)) has.firsts
+      subst (λ firsts. AllByRecursion (λ first. is_le (row_key_cmp first key) ≡ true) (take upto firsts)) has.has.firsts
       (all_taken (λ first. is_le (row_key_cmp first key) ≡ true) table.firsts upto (λ k d lt within. is.0 k d (omega arith) lt))
 
   all_keys : (blocks : List (List TableRow)) → KeysOver (drop 0 (first_keys blocks)) key → KeysOver (first_keys blocks) key
@@ -327,14 +332,14 @@ module _ (table : TableState) (key : RowKey) where
   none_held : (rows : List TableRow) (bytes : List ℕ) → HasRows table rows bytes → Parts key table.firsts 0 → held_in rows key ≡ Absent
   none_held rows bytes has parts =
       let over = over_keys rows bytes 0 has (point rows bytes 0 has parts) in
-      ap (λ l. held_in l key) has.rows_are ∙ held_over (rows_in has.blocks) key (rows_over 4096 has.blocks key has.are.filled has.are.rise (all_keys has.blocks over))
+      ap (λ l. held_in l key) has.rows_are ∙ held_over (rows_in has.blocks) key (rows_over 4096 has.blocks key has.has.are.filled has.has.are.rise (all_keys has.blocks over))
 
   -- the first key, where none is below
   none_from : (rows : List TableRow) (bytes : List ℕ) → HasRows table rows bytes → Parts key table.firsts 0 → key_of (row_from rows key) ≡ slice_get table.firsts 0
   none_from rows bytes has parts =
       let over = over_keys rows bytes 0 has (point rows bytes 0 has parts) in
-      ap (λ l. key_of (row_from l key)) has.rows_are ∙ ap key_of (from_over 4096 has.blocks key has.are.filled (all_keys has.blocks over))
-      ∙ ap (λ (b : List (List TableRow)). key_of (first_row b)) (sym (none_dropped has.blocks)) ∙ first_key_is 4096 has.blocks 0 has.are.filled ∙ ap (λ l. slice_get l 0) (sym has.firsts)
+      ap (λ l. key_of (row_from l key)) has.rows_are ∙ ap key_of (from_over 4096 has.blocks key has.has.are.filled (all_keys has.blocks over))
+      ∙ ap (λ (b : List (List TableRow)). key_of (first_row b)) (sym (none_dropped has.blocks)) ∙ first_key_is 4096 has.blocks 0 has.has.are.filled ∙ ap (λ l. slice_get l 0) (sym has.has.firsts)
     where
       none_dropped : (l : List (List TableRow)) → drop 0 l ≡ l
       none_dropped [] = refl
@@ -351,11 +356,11 @@ module _ (table : TableState) (key : RowKey) where
   found : (rows : List TableRow) (bytes block : List ℕ) (place : ℕ) → HasRows table rows bytes → Parts key table.firsts (suc place) → suc place ≤ length table.firsts → block ≡ take 4096 (drop (4096 * place) bytes) → Found rows block (suc place)
   found rows bytes block place has parts within read_is =
       let is = point rows bytes (suc place) has parts in
-      let number : length table.firsts ≡ length (first_keys has.blocks) = ap length has.firsts in
-      let l = located 4096 has.blocks key place has.are.filled has.are.rise (under_keys rows bytes (suc place) has is) (over_keys rows bytes (suc place) has is) (omega arith) in
-      let sound = are_sound 4096 has.blocks has.are.filled has.are.all in
+      let number : length table.firsts ≡ length (first_keys has.blocks) = ap length has.has.firsts in
+      let l = located 4096 has.blocks key place has.has.are.filled has.has.are.rise (under_keys rows bytes (suc place) has is) (over_keys rows bytes (suc place) has is) (omega arith) in
+      let sound = are_sound 4096 has.blocks has.has.are.filled has.has.are.all in
       let tail = counts_spelling has.blocks ++ md5 (table_front has.blocks) in
-      let whole : bytes ≡ blocks_spelling has.blocks ++ tail = has.bytes_are ∙ append_assoc (blocks_spelling has.blocks) (counts_spelling has.blocks) (md5 (table_front has.blocks)) in
+      let whole : bytes ≡ blocks_spelling has.blocks ++ tail = has.has.bytes_are ∙ append_assoc (blocks_spelling has.blocks) (counts_spelling has.blocks) (md5 (table_front has.blocks)) in
       let spelled : block ≡ block_spelling l.block = read_is ∙ ap (λ b. take 4096 (drop (4096 * place) b)) whole ∙ block_bytes has.blocks tail place l.block sound l.at in
       let there = sound_at has.blocks place l.block sound l.at in
       record {
@@ -364,13 +369,8 @@ module _ (table : TableState) (key : RowKey) where
         held = held_from l.block key l.rise ∙ sym l.held ∙ ap (λ r. held_in r key) (sym has.rows_are);
         some = λ row is. ap (λ r. key_of (row_from r key)) has.rows_are ∙ ap key_of l.from ∙ ap (λ r. key_of (or_else r (first_row (drop (suc place) has.blocks)))) is ∙ some_else row (first_row (drop (suc place) has.blocks));
         none = λ is. ap (λ r. key_of (row_from r key)) has.rows_are ∙ ap key_of l.from ∙ ap (λ r. key_of (or_else r (first_row (drop (suc place) has.blocks)))) is ∙ none_else (first_row (drop (suc place) has.blocks))
-            ∙ first_key_is 4096 has.blocks (suc place) has.are.filled ∙ ap (λ k. slice_get k (suc place)) (sym has.firsts);
+            ∙ first_key_is 4096 has.blocks (suc place) has.has.are.filled ∙ ap (λ k. slice_get k (suc place)) (sym has.has.firsts);
       }
-    where
-      sound_at : (blocks : List (List TableRow)) (k : ℕ) (b : List TableRow) → AreSound blocks → slice_get blocks k ≡ Some b → (block_size b ≤ 4096) × AllByRecursion IsRow b
-      sound_at [] k b sound at = absurd cc
-      sound_at (x ∷ blocks) zero b sound at = let same : x ≡ b = cc in subst (λ (y : List TableRow). (block_size y ≤ 4096) × AllByRecursion IsRow y) same sound.0
-      sound_at (x ∷ blocks) (suc k) b sound at = sound_at blocks k b sound.1 at
 
   -- ---- get
 

@@ -99,10 +99,12 @@ module _ (bytes front counts kept found : List ℕ) (is : bytes ≡ (front ++ co
         rows = rows_in spelled.blocks;
         has = record {
           blocks = spelled.blocks;
-          are = record { filled = spelled.filled; rise = spelled.rise; all = spelled.all; few = omega (arith, c.few, number); few_rows = omega (arith, c.few_rows, spelled.kept.rows) };
+          has = record {
+            are = record { filled = spelled.filled; rise = spelled.rise; all = spelled.all; few = omega (arith, c.few, number); few_rows = omega (arith, c.few_rows, spelled.kept.rows) };
+            bytes_are = is ∙ ap (λ l. (front ++ counts) ++ l) (same ∙ found_is) ∙ ap (λ l. l ++ md5 l) front_is;
+            firsts = firsts ∙ spelled.kept.firsts;
+          };
           rows_are = refl;
-          bytes_are = is ∙ ap (λ l. (front ++ counts) ++ l) (same ∙ found_is) ∙ ap (λ l. l ++ md5 l) front_is;
-          firsts = firsts ∙ spelled.kept.firsts;
         };
       }
 

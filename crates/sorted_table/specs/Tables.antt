@@ -13,13 +13,17 @@ pub record TableState : Type 0 where
   pub file : ℕ
   pub firsts : List RowKey
 
--- the bytes are a table of these rows, and the first keys of its blocks are those of the value
-pub record HasRows (table : TableState) (rows : List TableRow) (bytes : List ℕ) : Type 0 where
-  pub blocks : List (List TableRow)
+-- the bytes are a table of these blocks, whose first keys are those of the value
+pub record HasBlocks (table : TableState) (blocks : List (List TableRow)) (bytes : List ℕ) : Type 0 where
   pub are : AreBlocks blocks
-  pub rows_are : rows ≡ rows_in blocks
   pub bytes_are : bytes ≡ table_spelling blocks
   pub firsts : table.firsts ≡ first_keys blocks
+
+-- the bytes are a table of these rows
+pub record HasRows (table : TableState) (rows : List TableRow) (bytes : List ℕ) : Type 0 where
+  pub blocks : List (List TableRow)
+  pub has : HasBlocks table blocks bytes
+  pub rows_are : rows ≡ rows_in blocks
 
 -- the bytes are a table of some rows
 pub record IsSomeTable (table : TableState) (bytes : List ℕ) : Type 0 where
@@ -37,6 +41,10 @@ pub record IsReady (table : TableState) (seen : Contents) (sizes : Lengths) : Ty
 -- the table has these rows, where the disk tells it
 abbrev pub HoldsRows : TableState → Contents → List TableRow → Type 0
 HoldsRows table seen rows = OnTold (seen table.file) (HasRows table rows)
+
+-- the table has these blocks, where the disk tells it
+abbrev pub HoldsBlocks : TableState → Contents → List (List TableRow) → Type 0
+HoldsBlocks table seen blocks = OnTold (seen table.file) (HasBlocks table blocks)
 
 -- each image has just what the file reads as
 abbrev pub IsDurable : ℕ → Contents → (Image → Type 0) → Type 0

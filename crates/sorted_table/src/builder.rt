@@ -49,6 +49,13 @@ impl Builder {
         })
     }
 
+    /// How many blocks it has written.
+    pub fn written(&self) -> u32
+        ensures { result ≡ self.now.written }
+    {
+        self.written
+    }
+
     /// Adds a row behind the others: its key is above theirs. `None` is a tombstone. Where the row does not fit into
     /// the present block, that is written: one call of the disk, and for the first block one more.
     pub fn add<D: Disk>(
@@ -61,6 +68,7 @@ impl Builder {
         requires attr { IsMarked (option_map (λ a. a.now) attr) }
         requires growing { IsGrowing self.old (D.sizes disk.old) }
         ensures file { self.new.file ≡ self.old.file }
+        ensures written { OnOk result ((self.old.written ≤ self.new.written) × (self.new.written ≤ self.old.written + 1)) }
         ensures built { OnOk result ((rows : List TableRow) → IsBuilt self.old rows (D.seen disk.old self.old.file) → AllBelow rows key.now
             → IsBuilt self.new (rows ++ record { key = key.now; attr = option_map (λ a. a.now) attr.entry } ∷ []) (D.seen disk.new self.old.file)) }
         ensures growing { OnOk result (IsGrowing self.new (D.sizes disk.new)) }
@@ -104,6 +112,7 @@ impl Builder {
         requires small { size ≤ 307 }
         requires growing { IsGrowing self.old (D.sizes disk.old) }
         ensures file { self.new.file ≡ self.old.file }
+        ensures count { OnOk result ((self.old.written ≤ self.new.written) × (self.new.written ≤ self.old.written + 1)) }
         ensures room { OnOk result ((rows : List TableRow) → IsBuilt self.old rows (D.seen disk.old self.old.file) → HasRoom self.new size rows (D.seen disk.new self.old.file)) }
         ensures growing { OnOk result (IsGrowing self.new (D.sizes disk.new)) }
         ensures any_moment { LeavesOnly D.moment D.images_since disk.old disk.new (IsElsewhereOld self.old.file (D.images disk.old)) }
@@ -182,6 +191,7 @@ impl Builder {
         ensures written { OnOk result ((full : List (List TableRow)) (present rows : List TableRow) → Builds self.old full present rows (D.seen disk.old self.old.file) → 0 < length present
             → Builds self.new (full ++ present ∷ []) [] rows (D.seen disk.new self.old.file)) }
         ensures empty { OnOk result (length self.new.rows.items ≡ 0) }
+        ensures count { OnOk result (self.new.written ≡ self.old.written + 1) }
         ensures growing { OnOk result (IsGrowing self.new (D.sizes disk.new)) }
         ensures any_moment { LeavesOnly D.moment D.images_since disk.old disk.new (IsElsewhereOld self.old.file (D.images disk.old)) }
         ensures elsewhere { IsElsewhereUnchanged self.old.file (D.seen disk.old) (D.seen disk.new) (D.sizes disk.old) (D.sizes disk.new) }

@@ -1,5 +1,5 @@
 ghost use Rattle.std.specs.Prelude.{◌≡◌, ◌+◌, ◌*◌, ◌<◌, ◌≤◌, ◌^◌, List, ℕ, Option, Some, Ok, true, false, IfOk, OnOk, IsErrOf, MatchOption, length, take, drop};
-ghost use Rattle.std.specs.List.{slice_get};
+ghost use Rattle.std.specs.List.{AllByRecursion, slice_get};
 ghost use Rattle.std.specs.List.Sorted.{IsPartitionedBy, IsPartitionPoint};
 ghost use Rattle.std.specs.Ordering.{is_le};
 ghost use Rattle.mds_base.specs.RowKeys.{row_key_cmp};
@@ -10,14 +10,14 @@ ghost use Rattle.sorted_table.specs.Answers.{IsOpenAnswer, IsLookAnswer, IsCopyA
 ghost use Rattle.sorted_table.specs.Looks.{held_first, IsThis, IsPlain};
 ghost use Rattle.sorted_table.specs.Reading.{block_at};
 ghost use Rattle.sorted_table.specs.TableFiles.{HoldsOneTable, IsEitherTableOrDamaged};
-ghost use Rattle.sorted_table.specs.TableRows.{held_of, held_in, row_from, key_of};
-ghost use Rattle.sorted_table.specs.Tables.{IsReady, HoldsRows};
+ghost use Rattle.sorted_table.specs.TableRows.{IsRow, held_of, held_in, row_from, key_of};
+ghost use Rattle.sorted_table.specs.Tables.{IsReady, HoldsRows, HoldsBlocks};
 ghost use Rattle.sorted_table.specs.declared.table_row.TableRow.{TableRow};
 
-use crate::block::block_from;
+use crate::block::{block_from, block_rows};
 use crate::checked::copy_key;
 use crate::opening::{open_in, read_at};
-use crate::{BLOCK_BYTES, Held, TableDamage, TableFault};
+use crate::{BLOCK_BYTES, Held, TableDamage, TableFault, TableRow};
 use frame_pool::Frame;
 use mds_base::{Attr, RowKey};
 use mds_out::{Disk, DiskFault};
@@ -46,6 +46,13 @@ impl Table {
         ensures { result ≡ self.now.file }
     {
         self.file
+    }
+
+    /// How many blocks it has.
+    pub fn blocks(&self) -> usize
+        ensures { result ≡ length self.now.firsts }
+    {
+        self.firsts.len()
     }
 
     /// Opens the table in a file: reads all of it, through the frame. `Damaged` comes exactly where the file is too short
@@ -131,6 +138,36 @@ impl Table {
             Ok(found) => found_or(alloc, found, firsts, upto),
             Err(fault) => Err(fault),
         }
+    }
+
+    /// The rows of the block at a place, from 0 up, and one at least: the rows of all blocks, one after another, are the
+    /// table's. It reads this block alone.
+    pub fn block_rows<D: Disk>(
+        &self,
+        alloc: Global,
+        disk: &mut D,
+        frame: &mut Frame,
+        place: usize,
+    ) -> Result<Vec<TableRow>, TableFault>
+        requires ready { IsReady self.now (D.seen disk.old) (D.sizes disk.old) }
+        requires within { place < length self.now.firsts }
+        ensures block { IfOk result (λ rows. (blocks : List (List TableRow)) → HoldsBlocks self.now (D.seen disk.old) blocks → OnTold (D.seen disk.old self.now.file) (λ _. slice_get blocks place ≡ Some rows.items)) }
+        ensures rows { IfOk result (λ rows. AllByRecursion IsRow rows.items) }
+        ensures some { IfOk result (λ rows. 0 < length rows.items) }
+        ensures few { IfOk result (λ rows. length rows.items ≤ BLOCK_BYTES) }
+        ensures frame { frame.new.number ≡ frame.old.number }
+        ensures unchanged { IsUnchanged (D.seen disk.old) (D.seen disk.new) (D.sizes disk.old) (D.sizes disk.new) }
+        ensures crash { AreSame (D.images disk.old) (D.images disk.new) }
+        ensures any_moment { LeavesOnly D.moment D.images_since disk.old disk.new (D.images disk.old) }
+        ensures answer { IsCopyAnswer (D.seen disk.old self.now.file) result }
+        ensures cause { HasTableCause (D.faults disk.old) (D.faults disk.new) result }
+        ensures lasts { D.lasts disk.old disk.new }
+        ensures failed { IsErrOf result TableFault.Device → D.fails disk.old disk.new }
+        ensures asked { D.asked disk.new ≤ D.asked disk.old + 1 }
+        ensures changes { D.changes_asked disk.new ≡ D.changes_asked disk.old }
+    {
+        read_block(disk, self.file, place, frame)?;
+        rows_of(alloc, frame.bytes())
     }
 }
 
@@ -249,4 +286,29 @@ fn first_of(alloc: Global, firsts: &[RowKey], place: usize) -> Result<Option<Row
     };
     let found = copy_key(alloc, first)?;
     Ok(Some(found))
+}
+
+/// The rows of a block of a table, which has one at least.
+fn rows_of(alloc: Global, block: &[u8]) -> Result<Vec<TableRow>, TableFault>
+    requires { length block.now ≡ BLOCK_BYTES }
+    ensures read { IfOk result (λ rows. block_at block.now ≡ Some rows.items) }
+    ensures rows { IfOk result (λ rows. AllByRecursion IsRow rows.items) }
+    ensures some { IfOk result (λ rows. 0 < length rows.items) }
+    ensures few { IfOk result (λ rows. length rows.items ≤ BLOCK_BYTES) }
+    ensures plain { (there : List TableRow) → block_at block.now ≡ Some there → 0 < length there → IsPlain result }
+    ensures no_fault { IsErrOf result TableFault.Device → ⊥ }
+{
+    let Some((rows, _size)) = block_rows(alloc, block)? else {
+        return Err(TableFault::Damaged {
+            place: 0,
+            damage: TableDamage::Spelling,
+        });
+    };
+    if rows.is_empty() {
+        return Err(TableFault::Damaged {
+            place: 0,
+            damage: TableDamage::Spelling,
+        });
+    }
+    Ok(rows)
 }

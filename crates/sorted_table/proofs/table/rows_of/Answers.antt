@@ -1,0 +1,1 @@
+use Rattle.sorted_table.proofs.table.rows_of.Goals as goal
