@@ -8,7 +8,6 @@ ghost use Rattle.sorted_table.specs.TableRows.{IsMarked, row_spelling, key_spell
 ghost use Rattle.sorted_table.specs.Tables.{IsReady, HoldsRows, IsDurable};
 ghost use Rattle.sorted_table.specs.declared.table_row.TableRow.{TableRow};
 
-use crate::checked::copy_key;
 use crate::spelling::{fill_block, put_counts, put_row, row_size};
 use crate::writes::{put_block, put_end};
 use crate::{BLOCK_BYTES, ROW_BYTES, Table, TableFault};
@@ -159,7 +158,7 @@ impl Builder {
         if self.count > 0 {
             return Ok(());
         }
-        self.firsts.push(copy_key(alloc, key)?)?;
+        self.firsts.push(key.copy(alloc)?)?;
         Ok(())
     }
 

@@ -54,26 +54,14 @@ impl Checked {
         if !is_full || !rise_behind(self.last.as_ref(), rows) || !fits(self.rows, rows.len()) {
             return Ok(false);
         }
-        let first_key = copy_key(alloc, &first.key)?;
-        let last_key = copy_key(alloc, &last.key)?;
+        let first_key = first.key.copy(alloc)?;
+        let last_key = last.key.copy(alloc)?;
         self.firsts.push(first_key)?;
         self.rows += rows.len() as u64;
         self.last = Some(last_key);
         self.size = size as u16;
         Ok(true)
     }
-}
-
-/// A copy of a key; a name of at most 22 bytes takes no memory.
-pub(crate) fn copy_key(alloc: Global, key: &RowKey) -> Result<RowKey, AllocError>
-    ensures { IfOk result (λ copy. copy ≡ key.now) }
-{
-    Ok(RowKey {
-        dir: key.dir,
-        part: key.part,
-        rev: key.rev,
-        name: key.name.copy(alloc)?,
-    })
 }
 
 // Whether the number of all rows is a u64.

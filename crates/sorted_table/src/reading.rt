@@ -1,15 +1,14 @@
 //! Reading a row from left to right, in the bytes of its block.
 ghost use Rattle.std.specs.Prelude.{◌≡◌, ◌<◌, ◌^◌, IfOk, IsTrue, length};
-ghost use Rattle.std.specs.List.{list_all};
 ghost use Rattle.std.specs.Int.{w16, w32, w64, from_be_bytes};
-ghost use Rattle.mds_base.specs.Name.{is_name, is_dots, is_name_byte};
+ghost use Rattle.mds_base.specs.Name.{is_name};
 ghost use Rattle.mds_base.specs.RowKeys.{row_key_cmp};
 ghost use Rattle.sorted_table.specs.Lines.{row_in, key_in};
 ghost use Rattle.sorted_table.specs.Reading.{Gives, u16_at, u32_at, u64_at, name_at, key_at, plain_at, stamped_at, marked_at, row_at};
 
 use crate::TableRow;
 use mds_base::limits::{DIRECTORIES, MODE_MOST};
-use mds_base::{Attr, Name, RowKey};
+use mds_base::{Attr, Name, RowKey, is_name};
 use std::alloc::{AllocError, Global};
 use std::cmp::Ordering;
 
@@ -136,24 +135,6 @@ fn name_at(bytes: &[u8]) -> Option<(&[u8], &[u8])>
             }
         }
     }
-}
-
-fn is_name(bytes: &[u8]) -> bool
-    ensures { result ≡ is_name bytes.now }
-{
-    1 <= bytes.len() && bytes.len() <= 255 && !is_dots(bytes) && is_plain(bytes)
-}
-
-fn is_dots(bytes: &[u8]) -> bool
-    ensures { result ≡ is_dots bytes.now }
-{
-    bytes == b".".as_slice() || bytes == b"..".as_slice()
-}
-
-fn is_plain(bytes: &[u8]) -> bool
-    ensures { result ≡ list_all is_name_byte bytes.now }
-{
-    bytes.iter().all(|byte| *byte != b'/' && *byte != 0)
 }
 
 #[tactic(auto, unfolding(crate::specs::Reading::key_at))]

@@ -15,7 +15,6 @@ ghost use Rattle.sorted_table.specs.Tables.{IsReady, HoldsRows, HoldsBlocks};
 ghost use Rattle.sorted_table.specs.declared.table_row.TableRow.{TableRow};
 
 use crate::block::{block_from, block_rows};
-use crate::checked::copy_key;
 use crate::opening::{open_in, read_at};
 use crate::{BLOCK_BYTES, Held, TableDamage, TableFault, TableRow};
 use frame_pool::Frame;
@@ -284,7 +283,7 @@ fn first_of(alloc: Global, firsts: &[RowKey], place: usize) -> Result<Option<Row
     let Some(first) = firsts.get(place) else {
         return Ok(None);
     };
-    let found = copy_key(alloc, first)?;
+    let found = first.copy(alloc)?;
     Ok(Some(found))
 }
 
