@@ -68,6 +68,7 @@ impl Builder {
         requires growing { IsGrowing self.old (D.sizes disk.old) }
         ensures file { self.new.file ≡ self.old.file }
         ensures written { OnOk result ((self.old.written ≤ self.new.written) × (self.new.written ≤ self.old.written + 1)) }
+        ensures some { OnOk result (0 < self.new.count) }
         ensures built { OnOk result ((rows : List TableRow) → IsBuilt self.old rows (D.seen disk.old self.old.file) → AllBelow rows key.now
             → IsBuilt self.new (rows ++ record { key = key.now; attr = option_map (λ a. a.now) attr.entry } ∷ []) (D.seen disk.new self.old.file)) }
         ensures growing { OnOk result (IsGrowing self.new (D.sizes disk.new)) }
@@ -133,6 +134,7 @@ impl Builder {
         requires { IsMarked (option_map (λ a. a.now) attr) }
         ensures file { self.new.file ≡ self.old.file }
         ensures written { self.new.written ≡ self.old.written }
+        ensures some { OnOk result (0 < self.new.count) }
         ensures built { OnOk result ((rows : List TableRow) (seen : Option (List ℕ)) → HasRoom self.old (length (key_spelling key.now ++ marked_spelling (option_map (λ a. a.now) attr.entry))) rows seen → AllBelow rows key.now
             → IsBuilt self.new (rows ++ record { key = key.now; attr = option_map (λ a. a.now) attr.entry } ∷ []) seen) }
     {
