@@ -1,0 +1,6 @@
+pub mod Ordered
+pub mod LeastRows
+pub mod PartWay
+pub mod Along
+pub mod Running
+pub mod Stepping

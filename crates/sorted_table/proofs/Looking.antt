@@ -45,10 +45,10 @@ told_at seen file file' block block' want files blocks read =
 
 -- ---- orders
 
-turned : (a b : RowKey) → row_key_cmp a b ≡ Less → row_key_cmp b a ≡ Greater
+pub turned : (a b : RowKey) → row_key_cmp a b ≡ Less → row_key_cmp b a ≡ Greater
 turned a b less = row_keys_total.antisymm b a ∙ rw less refl
 
-back : (a b : RowKey) → row_key_cmp a b ≡ Greater → row_key_cmp b a ≡ Less
+pub back : (a b : RowKey) → row_key_cmp a b ≡ Greater → row_key_cmp b a ≡ Less
 back a b greater = row_keys_total.antisymm b a ∙ rw greater refl
 
 is_greater : (r : Ordering) → is_le r ≡ false → r ≡ Greater
@@ -77,7 +77,7 @@ under_all : (rows : List TableRow) (first key : RowKey) → AllByRecursion (λ r
 under_all [] first key all upto = tt
 under_all (row ∷ rows) first key all upto = (below_upto row.key first key all.0 upto, under_all rows first key all.1 upto)
 
-held_under : (rows more : List TableRow) (key : RowKey) → AllUnder rows key → held_in (rows ++ more) key ≡ held_in more key
+pub held_under : (rows more : List TableRow) (key : RowKey) → AllUnder rows key → held_in (rows ++ more) key ≡ held_in more key
 held_under [] more key under = refl
 held_under (row ∷ rows) more key under = ap (λ r. cond (is_eq r) (held_of row.attr) (held_in (rows ++ more) key)) under.0 ∙ held_under rows more key under.1
 
@@ -85,7 +85,7 @@ from_under : (rows more : List TableRow) (key : RowKey) → AllUnder rows key �
 from_under [] more key under = refl
 from_under (row ∷ rows) more key under = ap (λ r. cond (is_lt r) (row_from (rows ++ more) key) (Some row)) under.0 ∙ from_under rows more key under.1
 
-held_over : (rows : List TableRow) (key : RowKey) → AllAbove key rows → held_in rows key ≡ Absent
+pub held_over : (rows : List TableRow) (key : RowKey) → AllAbove key rows → held_in rows key ≡ Absent
 held_over [] key above = refl
 held_over (row ∷ rows) key above = ap (λ r. cond (is_eq r) (held_of row.attr) (held_in rows key)) (turned key row.key above.0) ∙ held_over rows key above.1
 
