@@ -4,3 +4,4 @@ pub mod PartWay
 pub mod Along
 pub mod Running
 pub mod Stepping
+pub mod Turning

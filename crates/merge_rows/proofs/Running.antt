@@ -24,19 +24,22 @@ AreAlike (Ok x) (Err fault) = ⊥
 AreAlike (Err fault) (Ok y) = ⊥
 AreAlike (Err fault) (Err other) = fault ≡ other
 
+err_as : (T S : Type 0) (fault other : TableFault) → ◌≡◌ {A = Result S TableFault} (Err fault) (Err other) → ◌≡◌ {A = Result T TableFault} (Err fault) (Err other)
+err_as T S fault other is = let same : fault ≡ other = cc in ap (λ f. Err f) same
+
 cause_as : {T S : Type 0} (r : Result T TableFault) (s : Result S TableFault) (before now : ℕ) → AreAlike r s → HasTableCause before now r → HasTableCause before now s
 cause_as (Ok x) (Ok y) before now alike cause = record { later = cause.later; device = λ never. absurd cc; other = tt; kept = cause.kept }
 cause_as (Ok x) (Err fault) before now alike cause = absurd alike
 cause_as (Err fault) (Ok y) before now alike cause = absurd alike
-cause_as {T} {S} (Err fault) (Err other) before now alike cause =
+cause_as {T = T} {S = S} (Err fault) (Err other) before now alike cause =
     let P : TableFault → Type 0 = λ f. HasTableCause {T = S} before now (Err f) in
-    subst P alike (record { later = cause.later; device = cause.device; other = cause.other; kept = tt })
+    subst P alike (record { later = cause.later; device = λ is. cause.device (err_as T S fault Device is); other = cause.other; kept = tt })
 
 failed_as : {T S : Type 0} (r : Result T TableFault) (s : Result S TableFault) (F : Type 0) → AreAlike r s → (IsErrOf r Device → F) → IsErrOf s Device → F
 failed_as (Ok x) (Ok y) F alike failed never = absurd cc
 failed_as (Ok x) (Err fault) F alike failed is = absurd alike
 failed_as (Err fault) (Ok y) F alike failed never = absurd cc
-failed_as (Err fault) (Err other) F alike failed is = failed (ap (λ f. Err f) alike ∙ is)
+failed_as {T = T} {S = S} (Err fault) (Err other) F alike failed is = failed (ap (λ f. Err f) alike ∙ err_as T S other Device is)
 
 module _ {D : Type 0} {seen : D → Contents} {sizes : D → Lengths} {images : D → Image → Type 0} {moment : D → ℕ} {since : D → ℕ → Image → Type 0} {faults : D → ℕ} {leads fails_by : D → D → Type 0} where
   pub reads_none : (old : D) → ((image : Image) → since old (moment old) image → images old image) → leads old old → OnlyReads seen sizes images moment since faults leads fails_by old old quiet
@@ -110,8 +113,8 @@ module _ {D : Type 0} {seen : D → Contents} {sizes : D → Lengths} {images : 
   -- a refusal that is passed on
   pub writes_fail : {T U : Type 0} (fault : TableFault) (file : ℕ) (old new : D) → WritesOnly {T = T} seen sizes images moment since faults leads fails_by file old new (Err fault) → (answer : Result U TableFault) → answer ≡ Err fault
       → WritesOnly seen sizes images moment since faults leads fails_by file old new answer
-  writes_fail {T} {U} fault file old new writes answer is = subst (WritesOnly seen sizes images moment since faults leads fails_by file old new) (sym is) (writes_as {T} {U} (Err fault) (Err fault) file old new refl writes)
+  writes_fail {T = T} {U = U} fault file old new writes answer is = subst (WritesOnly seen sizes images moment since faults leads fails_by file old new) (sym is) (writes_as {T = T} {S = U} (Err fault) (Err fault) file old new refl writes)
 
   pub reads_fail : {T U : Type 0} (fault : TableFault) (old new : D) → OnlyReads {T = T} seen sizes images moment since faults leads fails_by old new (Err fault) → (answer : Result U TableFault) → answer ≡ Err fault
       → OnlyReads seen sizes images moment since faults leads fails_by old new answer
-  reads_fail {T} {U} fault old new reads answer is = subst (OnlyReads seen sizes images moment since faults leads fails_by old new) (sym is) (reads_as {T} {U} (Err fault) (Err fault) old new refl reads)
+  reads_fail {T = T} {U = U} fault old new reads answer is = subst (OnlyReads seen sizes images moment since faults leads fails_by old new) (sym is) (reads_as {T = T} {S = U} (Err fault) (Err fault) old new refl reads)

@@ -120,6 +120,14 @@ module _ (tables : List TableState) where
         subst P (sym last) (subst Q (sym (same blocks tell)) (merging.part blocks tell));
   }
 
+  -- blocks were read
+  pub merging_read : (old new : Merge) (seen seen' : Contents) (sizes sizes' : Lengths) (before after : List CursorState) → new.builder ≡ old.builder → new.last ≡ old.last → new.cursors.items ≡ after → before ≡ old.cursors.items → AllAlong IsPlaced after tables
+      → ((blocks : List (List (List TableRow))) → AllTell HasBlocks tables seen blocks → lefts after blocks ≡ lefts before blocks) → IsUnchanged seen seen' sizes sizes' → IsMerging old tables seen sizes → IsMerging new tables seen' sizes'
+  merging_read old new seen seen' sizes sizes' before after builder last after_is before_is placed same unchanged merging =
+      merging_on new seen seen' sizes sizes' (stay_unchanged tables seen seen' unchanged.bytes) (unchanged.bytes new.builder.file) (unchanged.lengths new.builder.file)
+      (merging_filled old new seen sizes builder last (subst (λ (cs : List CursorState). AllAlong IsPlaced cs tables) (sym after_is) placed)
+      (λ blocks tell. ap (λ (cs : List CursorState). lefts cs blocks) after_is ∙ same blocks tell ∙ ap (λ (cs : List CursorState). lefts cs blocks) before_is) merging)
+
   -- one key more
   pub merging_passed : (old new : Merge) (row : TableRow) (seen seen' : Contents) (sizes sizes' : Lengths) → IsMerging old tables seen sizes → AllAlong HasNext old.cursors.items tables → least (map cursor_rows old.cursors.items) ≡ Some row
       → IsPassed old new row.key row.attr (seen old.builder.file) (seen' old.builder.file) → IsGrowing new.builder sizes' → IsElsewhereUnchanged old.builder.file seen seen' sizes sizes' → IsMerging new tables seen' sizes'
@@ -221,7 +229,12 @@ passed_answer tables merge row seen sizes (Err (Damaged place damage)) ready mer
     let never : ◌≡◌ {A = Bool} true false = sym above ∙ answer in
     cc
 
-pub pass_answer_as : {T S : Type 0} {above : Bool} (fault : TableFault) → IsPassAnswer {T = T} above (Err fault) → IsPassAnswer {T = S} above (Err fault)
-pass_answer_as Device answer = tt
-pass_answer_as (Damaged place damage) answer = answer
-pass_answer_as OutOfMemory answer = tt
+pub pass_answer_as : (T S : Type 0) (above : Bool) (fault : TableFault) → IsPassAnswer {T = T} above (Err fault) → IsPassAnswer {T = S} above (Err fault)
+pass_answer_as T S above Device answer = tt
+pass_answer_as T S above (Damaged place damage) answer = answer
+pass_answer_as T S above OutOfMemory answer = tt
+
+pub merge_answer_as : (T S : Type 0) (tables : List TableState) (seen : Contents) (fault : TableFault) → IsMergeAnswer {T = T} tables seen (Err fault) → IsMergeAnswer {T = S} tables seen (Err fault)
+merge_answer_as T S tables seen Device answer = tt
+merge_answer_as T S tables seen (Damaged place damage) answer = answer
+merge_answer_as T S tables seen OutOfMemory answer = tt

@@ -11,4 +11,4 @@ returns-clause-rest g c =
     let table = c.args.table.now in
     let seen = g.D.Disk.seen c.args.disk.now in
     let P : List TableRow → Type 0 = λ found. (blocks : List (List TableRow)) → HoldsBlocks table seen blocks → OnTold (seen table.file) (λ _. slice_get blocks c.self.inside.next ≡ Some found) in
-    rest_filled c.args.self.now table seen c.self.inside.next c.self.inside.rows.items c.from.result.items c.self.view_is (search rules) (subst P (sym c.from.ensures) c.in_ok-rows.ensures.block)
+    rest_filled c.args.self.now table seen c.self.inside.next c.self.inside.rows.items c.from.result.items c.self.view_is (search rules) (subst P (sym c.from.ensures.0) c.in_ok-rows.ensures.block)
