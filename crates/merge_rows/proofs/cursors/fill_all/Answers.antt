@@ -43,7 +43,7 @@ loop-place-preserved g c =
     let further : suc place ≡ place + 1 = omega arith in
     let more = along_more HasNext cursors tables place new table long c.loop-place-test.true before.next (subst (HasNext new) at c.in_ok-fill.ensures.next) in
     let less = weights_set cursors tables place new c.index-cursors-place.result table (omega (arith, long, c.loop-place-test.true)) c.loop-place-test.true
-        (subst (λ (t : TableState). weight new t ≤ weight (get_or cursors place c.index-cursors-place.result) t) at c.in_ok-fill.ensures.weight) in
+    (subst (λ (t : TableState). weight new t ≤ weight (get_or cursors place c.index-cursors-place.result) t) at c.in_ok-fill.ensures.weight) in
     record {
       placed = along_set IsPlaced cursors tables place new table before.placed (subst (IsPlaced new) at c.in_ok-fill.ensures.placed);
       next = subst (λ n. AllAlong HasNext (take n (set cursors place new)) (take n tables)) further more;

@@ -78,7 +78,7 @@ returns-in_err-pass-clause-answer g c =
     let filled = merging_read tables old mid (g.D.Disk.seen c.args.disk.now) (g.D.Disk.seen c.fill_all.new.disk) (g.D.Disk.sizes c.args.disk.now) (g.D.Disk.sizes c.fill_all.new.disk) c.as_mut_slice.result.now c.fill_all.new.cursors refl refl is c.as_mut_slice.ensures.value c.in_ok-fill_all.ensures.placed c.in_ok-fill_all.ensures.lefts c.fill_all.ensures.reads.unchanged c.requires.merging in
     let Q : RowKey → Type 0 = λ key. IsPassAnswer {T = Bool} (is_above old.last key) (Err fault) in
     let here = passed_answer {T = Bool} tables mid row seen' (g.D.Disk.sizes c.fill_all.new.disk) (Err fault) (ready_unchanged tables seen seen' (g.D.Disk.sizes c.args.disk.now) (g.D.Disk.sizes c.fill_all.new.disk) unchanged c.requires.ready) filled next found
-        (subst Q c.in_ok-key.ensures (pass_answer_as Bool Bool (is_above old.last c.in_ok-key.key) fault c.in_err-pass.ensures.answer)) in
+    (subst Q c.in_ok-key.ensures (pass_answer_as Bool Bool (is_above old.last c.in_ok-key.key) fault c.in_err-pass.ensures.answer)) in
     let given : c.from_residual-in_err-pass.result ≡ Err fault = search rules in
     subst (IsMergeAnswer tables seen) (sym given) (answer_before {T = Bool} tables seen seen' (Err fault) (stay_unchanged tables seen seen' unchanged.bytes) here)
 
