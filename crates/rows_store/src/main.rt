@@ -2,6 +2,7 @@
 //! `crates/rows/README.md` says what a row is.
 #![tactic(auto)]
 
+mod damages;
 mod merges;
 mod tables;
 

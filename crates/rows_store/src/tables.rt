@@ -4,6 +4,7 @@ ghost use Rattle.std.specs.Prelude.{◌≡◌, IfOk};
 ghost use Rattle.sorted_table.specs.TableRows.{IsMarked};
 ghost use Rattle.sorted_table.specs.Tables.{IsReady};
 
+use crate::damages::damages;
 use crate::merges::merge;
 use frame_pool::{Frame, Pool};
 use mds_base::{Attr, RowKey};
@@ -46,7 +47,7 @@ fn run(alloc: Global, mut words: Words<'_>) -> Answer {
 }
 
 /// `make FILE COUNT ROW..` and `fill FILE FROM TO NAME SIZE`, `open FILE`, `get FILE REV NAME` and `seek FILE REV NAME`,
-/// each of which opens the table, `merge FILE BLOCKS TURNS TABLE,..`, and the actions of a disk.
+/// each of which opens the table, as `damages FILE` does, which changes each byte in turn, `merge FILE BLOCKS TURNS TABLE,..`, and the actions of a disk.
 fn act_on<D: Disk>(alloc: Global, disk: &mut Fuse<D>, words: Words<'_>) -> Answer {
     let mut rest = words;
     match rest.word()? {
@@ -56,6 +57,7 @@ fn act_on<D: Disk>(alloc: Global, disk: &mut Fuse<D>, words: Words<'_>) -> Answe
         "open" => look(alloc, disk, Asked::Open, rest),
         "get" => look(alloc, disk, Asked::Get, rest),
         "seek" => look(alloc, disk, Asked::Seek, rest),
+        "damages" => look(alloc, disk, Asked::Damages, rest),
         _ => act(alloc, disk, words),
     }
 }
@@ -141,6 +143,7 @@ enum Asked {
     Open,
     Get,
     Seek,
+    Damages,
 }
 
 fn look<D: Disk>(alloc: Global, disk: &mut D, asked: Asked, words: Words<'_>) -> Answer {
@@ -184,6 +187,7 @@ fn look_into<D: Disk>(
         Asked::Open => text(alloc, "ok"),
         Asked::Get => get(alloc, disk, frame, table, words),
         Asked::Seek => seek(alloc, disk, frame, table, words),
+        Asked::Damages => damages(alloc, disk, frame, table.file()),
     }
 }
 
