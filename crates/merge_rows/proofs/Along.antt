@@ -1,9 +1,9 @@
 -- Cursors along their tables.
 use Rattle.std.specs.Prelude.{◌⊎◌}
-use Rattle.std.proofs.Common.{◌≡◌, ◌∙◌, sym, ap, subst, refl, inl, inr, ⊎_elim, ℕ, zero, suc, ◌+◌, ◌-◌, ◌*◌, ◌<◌, ◌≤◌, Bool, true, false, cond, List, [], ◌∷◌, ◌++◌, map, length, take, drop, get_or, set, replicate, Option, None, Some, arith}
+use Rattle.std.proofs.Common.{◌≡◌, ◌∙◌, sym, ap, subst, refl, inl, inr, ⊎_elim, ℕ, zero, suc, ◌+◌, ◌<◌, ◌≤◌, Bool, true, false, cond, List, [], ◌∷◌, ◌++◌, map, length, take, drop, get_or, set, replicate, Option, None, Some, arith}
 use Rattle.std.specs.List.{AllByRecursion, slice_get}
 use Rattle.std.specs.Ordering.{is_eq, is_gt}
-use Rattle.std.proofs.lemmas.List.{append-nil, drop_all}
+use Rattle.std.proofs.lemmas.List.{drop_all}
 use Rattle.std.proofs.lemmas.Option.{same_Some}
 use Rattle.mds_base.specs.declared.row_key.RowKey.{RowKey}
 use Rattle.mds_base.specs.RowKeys.{row_key_cmp}
@@ -13,7 +13,7 @@ use Rattle.sorted_table.specs.declared.table_row.TableRow.{TableRow}
 use Rattle.sorted_table.specs.declared.table_row.Held.TheVariants.{Absent}
 use Rattle.sorted_table.specs.Blocks.{rows_in}
 use Rattle.sorted_table.specs.TableRows.{IsRow}
-use Rattle.sorted_table.specs.Tables.{TableState, HasBlocks, HasRows, HoldsBlocks}
+use Rattle.sorted_table.specs.Tables.{TableState, HasBlocks, HoldsBlocks}
 use Rattle.sorted_table.proofs.Verdicts.{first_keys_length}
 use Rattle.merge_rows.specs.Cursors.{CursorState, at_front, first, lesser, least, passed, cursor_passed, cursor_rows, rest_of, lefts, IsPlaced, HasNext, AllAlong, weight, weights}
 use Rattle.merge_rows.specs.Merged.{newest}

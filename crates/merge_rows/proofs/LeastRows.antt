@@ -1,9 +1,9 @@
 -- Lists of rows that rise, side by side: the least of their first rows, and what passing its key leaves.
-use Rattle.std.proofs.Common.{◌≡◌, ◌∙◌, sym, ap, subst, refl, Bool, true, false, cond, List, [], ◌∷◌, ◌++◌, map, Option, None, Some}
+use Rattle.std.proofs.Common.{◌≡◌, ◌∙◌, sym, ap, subst, refl, Bool, true, false, cond, List, [], ◌∷◌, map, Option, None, Some}
 use Rattle.std.specs.declared.cmp.Ordering.{Ordering}
 use Rattle.std.specs.declared.cmp.Ordering.TheVariants.{Less, Equal, Greater}
 use Rattle.std.specs.List.{AllByRecursion}
-use Rattle.std.specs.Ordering.{is_lt, is_eq, is_le, is_gt}
+use Rattle.std.specs.Ordering.{is_eq, is_le, is_gt}
 use Rattle.std.proofs.lemmas.Option.{same_Some}
 use Rattle.mds_base.specs.declared.row_key.RowKey.{RowKey}
 use Rattle.mds_base.specs.RowKeys.{row_key_cmp}
@@ -12,12 +12,11 @@ use Rattle.sorted_table.specs.declared.table_row.TableRow.{TableRow}
 use Rattle.sorted_table.specs.declared.table_row.Held.{Held}
 use Rattle.sorted_table.specs.declared.table_row.Held.TheVariants.{Absent}
 use Rattle.sorted_table.specs.TableRows.{Rises, held_of, held_in}
-use Rattle.sorted_table.specs.Blocks.{is_above}
-use Rattle.sorted_table.proofs.Looking.{turned, back, held_over}
+use Rattle.sorted_table.proofs.Looking.{back, held_over}
 use Rattle.sorted_table.proofs.Rising.{AllAbove, above_above}
-use Rattle.merge_rows.specs.Cursors.{first, lesser, least, passed}
+use Rattle.merge_rows.specs.Cursors.{lesser, least, passed}
 use Rattle.merge_rows.specs.Merged.{or_older, newest}
-use Rattle.merge_rows.proofs.Ordered.{AllFrom, greater_is, not_greater, self_equal, from_above, from_less, all_from_less, not_below}
+use Rattle.merge_rows.proofs.Ordered.{AllFrom, greater_is, not_greater, self_equal, from_above, all_from_less, not_below}
 
 -- ---- behind a key
 

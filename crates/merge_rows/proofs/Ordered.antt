@@ -8,11 +8,10 @@ use Rattle.mds_base.specs.declared.row_key.RowKey.{RowKey}
 use Rattle.mds_base.specs.RowKeys.{row_key_cmp}
 use Rattle.mds_base.proofs.RowMaps.{row_keys_total, exact_row_keys}
 use Rattle.sorted_table.specs.declared.table_row.TableRow.{TableRow}
-use Rattle.sorted_table.specs.declared.table_row.Held.{Held}
 use Rattle.sorted_table.specs.declared.table_row.Held.TheVariants.{Absent}
 use Rattle.sorted_table.specs.TableRows.{held_of, held_in}
 use Rattle.sorted_table.specs.Building.{AllBelow}
-use Rattle.sorted_table.proofs.Looking.{turned, back, held_under}
+use Rattle.sorted_table.proofs.Looking.{turned, held_under}
 use Rattle.sorted_table.proofs.Rising.{AllAbove}
 
 -- ---- orderings

@@ -1,5 +1,5 @@
 -- One key more: what was added and what is left still make what the tables make.
-use Rattle.std.proofs.Common.{◌≡◌, ◌∙◌, sym, ap, subst, refl, Bool, true, false, cond, List, [], ◌∷◌, ◌++◌, map, Option, None, Some}
+use Rattle.std.proofs.Common.{◌≡◌, ◌∙◌, sym, ap, subst, refl, Bool, true, false, List, [], ◌∷◌, map, Option, None, Some}
 use Rattle.std.specs.declared.cmp.Ordering.TheVariants.{Less}
 use Rattle.std.specs.List.{AllByRecursion}
 use Rattle.std.specs.Ordering.{is_lt, is_eq, is_le}
@@ -19,7 +19,7 @@ use Rattle.merge_rows.specs.Merged.{or_older, newest, live, IsMerged}
 use Rattle.merge_rows.specs.Merging.{AreUpto, IsPartWay}
 use Rattle.merge_rows.specs.Steps.{with_row}
 use Rattle.merge_rows.proofs.Ordered.{equal_is, lt_is_less, self_equal, le_less, held_below, held_last, held_apart}
-use Rattle.merge_rows.proofs.LeastRows.{IsLeastOf, least_is, least_one, rise_all, above_all, newest_passed, newest_above}
+use Rattle.merge_rows.proofs.LeastRows.{least_is, least_one, rise_all, above_all, newest_passed, newest_above}
 
 -- ---- the key that was passed last
 

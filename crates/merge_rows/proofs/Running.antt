@@ -1,13 +1,12 @@
 -- Runs of calls of a disk, one after another.
 use Rattle.std.specs.Prelude.{⊤}
-use Rattle.std.proofs.Common.{◌≡◌, ◌∙◌, sym, ap, subst, refl, ℕ, ◌≤◌, List, Option, None, Some, Result, Ok, Err, IsErrOf, OnOk, arith}
-use Rattle.std.specs.List.{AllByRecursion}
-use Rattle.gate_log.proofs.Scans.{unchanged_twice, same_twice, known_still}
+use Rattle.std.proofs.Common.{◌≡◌, ◌∙◌, sym, ap, subst, refl, ℕ, ◌≤◌, Result, Ok, Err, IsErrOf, arith}
+use Rattle.gate_log.proofs.Scans.{unchanged_twice, same_twice}
 use Rattle.gate_log.specs.LogState.{IsElsewhereOld}
-use Rattle.mds_out.specs.Disk.{Image, Contents, Lengths, AreSame, IsUnchanged, IsElsewhereUnchanged, LeavesOnly}
+use Rattle.mds_out.specs.Disk.{Image, Contents, Lengths}
 use Rattle.mds_out.proofs.Moments.{both, started, leaves_weaker}
 use Rattle.sorted_table.specs.declared.fault.TableFault.{TableFault}
-use Rattle.sorted_table.specs.declared.fault.TableFault.TheVariants.{Device, Damaged, OutOfMemory}
+use Rattle.sorted_table.specs.declared.fault.TableFault.TheVariants.{Device}
 use Rattle.sorted_table.specs.Answers.{HasTableCause}
 use Rattle.sorted_table.proofs.Elsewhere.{old_elsewhere, elsewhere_on, elsewhere_none, unchanged_elsewhere, unchanged_elsewhere_none}
 use Rattle.sorted_table.proofs.Opens.{unchanged_here, same_here}

@@ -1,30 +1,30 @@
 -- A merge goes on: blocks were read, or a key was passed.
-use Rattle.std.specs.Prelude.{⊤}
-use Rattle.std.proofs.Common.{◌≡◌, ◌≢◌, ◌∙◌, sym, ap, subst, refl, ℕ, ◌+◌, ◌*◌, ◌<◌, ◌≤◌, Bool, true, false, List, [], ◌∷◌, map, length, get_or, replicate, zero, suc, Option, None, Some, Result, Ok, Err, arith}
+use Rattle.std.proofs.Common.{◌≡◌, ◌≢◌, ◌∙◌, sym, ap, subst, refl, ℕ, ◌*◌, ◌<◌, Bool, true, false, List, [], ◌∷◌, map, length, get_or, replicate, zero, suc, Option, None, Some, Result, Ok, Err, arith}
 use Rattle.std.specs.List.{AllByRecursion}
 use Rattle.std.specs.Option.{IsSome}
 use Rattle.gate_log.proofs.Scans.{known_still}
+use Rattle.gate_log.specs.LogState.{IsElsewhereOld}
 use Rattle.mds_base.specs.declared.row_key.RowKey.{RowKey}
-use Rattle.mds_out.specs.Disk.{Contents, Lengths, IsUnchanged, IsElsewhereUnchanged}
+use Rattle.mds_out.specs.Disk.{Image, Contents, Lengths, IsUnchanged, IsElsewhereUnchanged, LeavesOnly}
+use Rattle.mds_out.proofs.Moments.{leaves_weaker}
 use Rattle.mds_out.specs.Known.{OnTold}
 use Rattle.sorted_table.specs.declared.builder.Builder.{Builder}
 use Rattle.sorted_table.specs.declared.fault.TableFault.{TableFault}
 use Rattle.sorted_table.specs.declared.fault.TableFault.TheVariants.{Device, Damaged, OutOfMemory}
 use Rattle.sorted_table.specs.declared.table_row.TableRow.{TableRow}
-use Rattle.sorted_table.specs.declared.table_row.Held.TheVariants.{Absent}
 use Rattle.sorted_table.specs.Answers.{IsMemoryAnswer, IsCopyAnswer}
 use Rattle.sorted_table.specs.Blocks.{rows_in, is_above}
 use Rattle.sorted_table.specs.Building.{IsBuilt, IsGrowing}
 use Rattle.sorted_table.specs.TableRows.{Rises}
-use Rattle.sorted_table.specs.Tables.{TableState, HasBlocks, HasRows, IsReady, IsSomeTable}
+use Rattle.sorted_table.specs.Tables.{TableState, HasBlocks, IsReady, IsSomeTable}
 use Rattle.merge_rows.specs.declared.merge.Merge.{Merge}
 use Rattle.merge_rows.specs.Answers.{IsMergeAnswer}
-use Rattle.merge_rows.specs.Cursors.{CursorState, at_front, least, cursor_passed, cursor_rows, lefts, IsPlaced, HasNext, AllAlong, weights}
-use Rattle.merge_rows.specs.Merged.{newest}
+use Rattle.merge_rows.specs.Cursors.{CursorState, at_front, least, cursor_passed, cursor_rows, lefts, IsPlaced, HasNext, AllAlong}
 use Rattle.merge_rows.specs.Merging.{AreApart, AreUpto, IsPartWay, IsMerging}
-use Rattle.merge_rows.specs.Steps.{with_row, IsPassed, IsPassAnswer, Steps}
+use Rattle.merge_rows.specs.Runs.{StayReadable}
+use Rattle.merge_rows.specs.Steps.{with_row, IsPassed, IsPassAnswer}
 use Rattle.merge_rows.specs.Telling.{Tells, AllTell, AreTold, AreReady}
-use Rattle.merge_rows.proofs.Along.{placed_front, lefts_front, placed_passed, along_map, least_lefts, passed_lefts, none_lefts, weights_less, told_now}
+use Rattle.merge_rows.proofs.Along.{placed_front, lefts_front, placed_passed, along_map, least_lefts, passed_lefts}
 use Rattle.merge_rows.proofs.PartWay.{below_of, upto_row, least_above, part_more}
 
 -- ---- files that stay
@@ -74,6 +74,17 @@ pub ready_apart : (tables : List TableState) (file : ℕ) (seen seen' : Contents
 ready_apart [] file seen seen' sizes sizes' apart same ready = tt
 ready_apart (table ∷ tables) file seen seen' sizes sizes' apart same ready =
     (ready_here table seen seen' sizes sizes' (same.bytes table.file apart.0) (same.lengths table.file apart.0) ready.0, ready_apart tables file seen seen' sizes sizes' apart.1 same ready.1)
+
+-- other files are read as before after a crash at any moment
+pub readable_apart : {D : Type 0} (moment : D → ℕ) (since : D → ℕ → Image → Type 0) (old new : D) (seen : Contents) (images : Image → Type 0) (tables : List TableState) (file : ℕ) → AreApart tables file → LeavesOnly moment since old new (IsElsewhereOld file images)
+    → StayReadable moment since old new seen images tables
+readable_apart moment since old new seen images [] file apart leaves = tt
+readable_apart moment since old new seen images (table ∷ tables) file apart leaves =
+    ((λ durable. leaves_weaker moment since old new (IsElsewhereOld file images) (λ image. OnTold (seen table.file) (λ bytes. image table.file ≡ bytes)) (one (seen table.file) durable) leaves), readable_apart moment since old new seen images tables file apart.1 leaves)
+  where
+    one : (told : Option (List ℕ)) → OnTold told (λ bytes. (image : Image) → images image → image table.file ≡ bytes) → (image : Image) → IsElsewhereOld file images image → OnTold told (λ bytes. image table.file ≡ bytes)
+    one None durable image elsewhere = tt
+    one (Some bytes) durable image elsewhere = elsewhere.others table.file apart.0 ∙ durable elsewhere.before elsewhere.was
 
 growing_still : (b : Builder) (sizes sizes' : Lengths) → OnTold (sizes b.file) (λ size. sizes' b.file ≡ Some size) → IsGrowing b sizes → IsGrowing b sizes'
 growing_still b sizes sizes' stays growing some = known_still (sizes b.file) (sizes' b.file) (4096 * b.written) (growing some) stays

@@ -6,8 +6,7 @@ use Rattle.sorted_table.specs.declared.fault.TableFault.{TableFault}
 use Rattle.sorted_table.specs.declared.table_row.TableRow.{TableRow}
 use Rattle.sorted_table.specs.declared.table_row.Held.TheVariants.{Absent}
 use Rattle.sorted_table.specs.Blocks.{rows_in}
-use Rattle.sorted_table.specs.Building.{IsBuilt}
-use Rattle.sorted_table.specs.Tables.{TableState, HasBlocks, HasRows, HoldsRows}
+use Rattle.sorted_table.specs.Tables.{TableState, HasBlocks, HasRows}
 use Rattle.merge_rows.specs.declared.merge.Merge.{Merge}
 use Rattle.merge_rows.specs.declared.merge.Turn.{Turn}
 use Rattle.merge_rows.specs.declared.merge.Turn.TheVariants.{More, Finished}
@@ -15,7 +14,7 @@ use Rattle.merge_rows.specs.Cursors.{lefts}
 use Rattle.merge_rows.specs.Merged.{newest, IsMerged}
 use Rattle.merge_rows.specs.Merging.{IsMerging}
 use Rattle.merge_rows.specs.Telling.{AllTell}
-use Rattle.merge_rows.specs.Turns.{IfFinished, HoldsMerged}
+use Rattle.merge_rows.specs.Turns.{IfFinished}
 use Rattle.merge_rows.proofs.PartWay.{part_all}
 use Rattle.merge_rows.proofs.Stepping.{StayTold, stay_back, tell_before}
 

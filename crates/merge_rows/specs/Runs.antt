@@ -1,10 +1,13 @@
 -- Runs of calls of a disk, up to an answer.
-use Rattle.std.specs.Prelude.{ℕ, List, Result, IsErrOf}
+use Rattle.std.specs.Prelude.{◌≡◌, ℕ, List, Result, IsErrOf}
+use Rattle.std.specs.List.{AllByRecursion}
 use Rattle.gate_log.specs.LogState.{IsElsewhereOld}
 use Rattle.mds_out.specs.Disk.{Image, Contents, Lengths, AreSame, IsUnchanged, IsElsewhereUnchanged, LeavesOnly}
+use Rattle.mds_out.specs.Known.{OnTold}
 use Rattle.sorted_table.specs.declared.fault.TableFault.{TableFault}
 use Rattle.sorted_table.specs.declared.fault.TableFault.TheVariants.{Device}
 use Rattle.sorted_table.specs.Answers.{HasTableCause}
+use Rattle.sorted_table.specs.Tables.{TableState, IsDurable}
 
 -- Nothing that a read gives has changed, no crash leaves more than before, and the disk's count of faults says whether
 -- it was the device.
@@ -25,3 +28,7 @@ pub record WritesOnly {D T : Type 0} (seen : D → Contents) (sizes : D → Leng
   pub cause : HasTableCause (faults old) (faults new) result
   pub lasts : leads old new
   pub failed : IsErrOf result Device → fails_by old new
+
+-- A crash at any moment leaves of each table whose file a crash left as it reads just what it reads as.
+abbrev pub StayReadable : {D : Type 0} → (moment : D → ℕ) (since : D → ℕ → Image → Type 0) (old new : D) → Contents → (Image → Type 0) → List TableState → Type 0
+StayReadable moment since old new seen images tables = AllByRecursion (λ table. IsDurable table.file seen images → LeavesOnly moment since old new (λ image. OnTold (seen table.file) (λ bytes. image table.file ≡ bytes))) tables

@@ -3,7 +3,7 @@ ghost use Rattle.std.specs.Option.{option_map};
 ghost use Rattle.mds_out.specs.Disk.{Contents, Lengths};
 ghost use Rattle.merge_rows.specs.Answers.{IsMergeAnswer};
 ghost use Rattle.merge_rows.specs.Merging.{AreApart, IsMerging};
-ghost use Rattle.merge_rows.specs.Runs.{WritesOnly};
+ghost use Rattle.merge_rows.specs.Runs.{WritesOnly, StayReadable};
 ghost use Rattle.merge_rows.specs.Steps.{IsPut, IsPassed, IsPassAnswer, Steps};
 ghost use Rattle.merge_rows.specs.Telling.{AllTell, AreReady};
 ghost use Rattle.merge_rows.specs.Turns.{IfMore, IfFinished, HoldsMerged};
@@ -77,6 +77,8 @@ impl Merge {
         ensures ready { IfFinished result (λ table. IsReady table (D.seen disk.new) (D.sizes disk.new)) }
         ensures durable { IfFinished result (λ table. IsDurable self.builder.file (D.seen disk.new) (D.images disk.new)) }
         ensures frame { frame.new.number ≡ frame.old.number }
+        ensures tables { AreReady tables.now (D.seen disk.new) (D.sizes disk.new) }
+        ensures readable { StayReadable D.moment D.images_since disk.old disk.new (D.seen disk.old) (D.images disk.old) tables.now }
         ensures writes { WritesOnly D.seen D.sizes D.images D.moment D.images_since D.faults D.lasts D.fails self.builder.file disk.old disk.new result }
         ensures answer { IsMergeAnswer tables.now (D.seen disk.old) result }
     {

@@ -1,4 +1,4 @@
-use Rattle.std.proofs.Common.{◌≡◌, ◌∙◌, ◌+◌, ◌++◌, List, [], ◌∷◌, ap, suc, ℕ, sym, replicate, arith}
+use Rattle.std.proofs.Common.{◌≡◌, ◌∙◌, ◌+◌, ◌++◌, List, [], ◌∷◌, ap, suc, replicate, arith}
 use Rattle.merge_rows.specs.Cursors.{CursorState, at_front}
 use Rattle.merge_rows.proofs.Along.{replicate_last}
 use Rattle.merge_rows.proofs.cursors.cursors_of.Goals as goal

@@ -1,6 +1,6 @@
-use Rattle.std.proofs.Common.{◌≡◌, ◌∙◌, ◌+◌, ◌<◌, ◌≤◌, List, ℕ, suc, Ok, Err, Result, length, take, set, get_or, ap, subst, sym, refl, arith, rules}
-use Rattle.sorted_table.specs.Tables.{TableState, IsReady, HasBlocks}
-use Rattle.merge_rows.specs.Cursors.{CursorState, AllAlong, IsPlaced, HasNext, weight, weights}
+use Rattle.std.proofs.Common.{◌≡◌, ◌∙◌, ◌+◌, ◌≤◌, suc, Ok, take, set, get_or, subst, sym, refl, arith}
+use Rattle.sorted_table.specs.Tables.{TableState, IsReady}
+use Rattle.merge_rows.specs.Cursors.{AllAlong, IsPlaced, HasNext, weight}
 use Rattle.merge_rows.proofs.Along.{along_length, along_at, along_set, along_none, along_more, along_all, lefts_set, weights_set}
 use Rattle.merge_rows.proofs.Running.{quiet, reads_none, reads_as, reads_on}
 use Rattle.merge_rows.proofs.Stepping.{ready_unchanged, all_at, tells_still}

@@ -1,4 +1,4 @@
-use Rattle.std.proofs.Common.{◌≡◌, ◌∙◌, ◌++◌, ap, sym, map, take, drop, length, set, List, arith}
+use Rattle.std.proofs.Common.{◌∙◌, ◌++◌, ap, sym, map, drop, set, List}
 use Rattle.std.proofs.lemmas.List.{append-nil, take_all, drop_all}
 use Rattle.std.proofs.lemmas.List.Edits.{map_over_more}
 use Rattle.merge_rows.specs.Cursors.{CursorState, cursor_passed}

@@ -1,4 +1,4 @@
-use Rattle.std.proofs.Common.{◌≡◌, ◌∙◌, ◌++◌, ◌∷◌, [], List, subst, sym}
+use Rattle.std.proofs.Common.{◌∙◌, ◌∷◌, [], List, subst, sym}
 use Rattle.sorted_table.specs.Tables.{TableState, IsReady}
 use Rattle.sorted_table.proofs.Rising.{all_joined}
 use Rattle.merge_rows.specs.Telling.{AreReady}

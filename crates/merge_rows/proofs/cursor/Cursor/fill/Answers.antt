@@ -1,4 +1,4 @@
-use Rattle.std.proofs.Common.{◌≡◌, List, Some, length, sym, subst, rules}
+use Rattle.std.proofs.Common.{◌≡◌, List, Some, sym, subst, rules}
 use Rattle.std.specs.List.{slice_get}
 use Rattle.mds_out.specs.Known.{OnTold}
 use Rattle.sorted_table.specs.declared.table_row.TableRow.{TableRow}

@@ -1,4 +1,4 @@
-use Rattle.std.proofs.Common.{◌≡◌, ◌∙◌, None, subst, sym, refl, rules}
+use Rattle.std.proofs.Common.{None, subst, sym, refl, rules}
 use Rattle.merge_rows.specs.Merging.{AreApart}
 use Rattle.merge_rows.proofs.Stepping.{merging_new}
 use Rattle.merge_rows.proofs.merge.Merge.start.Goals as goal

@@ -1,4 +1,4 @@
-use Rattle.std.proofs.Common.{◌≡◌, ◌∙◌, ◌<◌, ◌≤◌, ℕ, Bool, true, false, List, map, Option, None, Some, Ok, Err, Result, ap, subst, sym, refl, inl, arith, rules}
+use Rattle.std.proofs.Common.{◌≡◌, ◌∙◌, Bool, true, List, map, None, Some, Ok, Err, ap, subst, sym, refl, inl, arith, rules}
 use Rattle.std.specs.Vec.{with_items}
 use Rattle.std.proofs.lemmas.List.{with_items_is, places}
 use Rattle.mds_base.specs.declared.row_key.RowKey.{RowKey}
@@ -6,7 +6,6 @@ use Rattle.sorted_table.specs.Blocks.{is_above}
 use Rattle.merge_rows.specs.declared.merge.Merge.{Merge}
 use Rattle.merge_rows.specs.Answers.{IsMergeAnswer}
 use Rattle.merge_rows.specs.Cursors.{CursorState, least, cursor_rows, cursor_passed, weights, AllAlong, IsPlaced, HasNext}
-use Rattle.merge_rows.specs.Merging.{IsMerging}
 use Rattle.merge_rows.specs.Steps.{IsPassed, IsPassAnswer}
 use Rattle.merge_rows.proofs.Along.{least_row, none_lefts, weights_less}
 use Rattle.merge_rows.proofs.Running.{quiet, writes_as, writes_reads, writes_on, writes_fail}

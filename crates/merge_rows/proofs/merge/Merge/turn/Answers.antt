@@ -1,4 +1,4 @@
-use Rattle.std.proofs.Common.{◌≡◌, ◌≢◌, ◌∙◌, ◌+◌, ◌<◌, ◌≤◌, ℕ, Bool, true, false, List, Ok, Err, Result, ⊎_elim, inl, inr, ap, subst, sym, refl, arith, rules}
+use Rattle.std.proofs.Common.{◌≡◌, ◌∙◌, ◌<◌, ℕ, Bool, List, Ok, Err, ⊎_elim, inl, inr, ap, subst, sym, arith, rules}
 use Rattle.sorted_table.specs.declared.builder.Builder.{Builder}
 use Rattle.sorted_table.specs.declared.table_row.TableRow.{TableRow}
 use Rattle.sorted_table.specs.Building.{IsBuilt}
@@ -9,7 +9,7 @@ use Rattle.merge_rows.specs.Runs.{WritesOnly}
 use Rattle.merge_rows.specs.Telling.{AllTell}
 use Rattle.merge_rows.specs.Turns.{HoldsMerged}
 use Rattle.merge_rows.proofs.Running.{quiet, writes_as, writes_on, writes_fail}
-use Rattle.merge_rows.proofs.Stepping.{stay_apart, ready_apart, answer_before, merge_answer_as}
+use Rattle.merge_rows.proofs.Stepping.{stay_apart, ready_apart, readable_apart, answer_before, merge_answer_as}
 use Rattle.merge_rows.proofs.Turning.{if_finished, merged_rows}
 use Rattle.merge_rows.proofs.merge.Merge.turn.Goals as goal
 
@@ -88,3 +88,23 @@ rows-preserved g c =
       number = c.in_ok-some.ensures.frame ∙ before.number;
       writes = writes_on quiet file c.args.disk.now c.rows.disk c.step.new.disk (g.met.D.Disk.counts_now c.rows.disk) (g.met.D.Disk.lasts_on c.args.disk.now c.rows.disk c.step.new.disk) (g.met.D.Disk.fails_after c.args.disk.now c.rows.disk c.step.new.disk) before.writes step;
     }
+
+pub returns-in_err-some-clause-tables : goal.returns-in_err-some-clause-tables
+returns-in_err-some-clause-tables g c =
+    ready_apart c.args.tables.now c.args.self.builder.file (g.D.Disk.seen c.args.disk.now) (g.D.Disk.seen c.step.new.disk) (g.D.Disk.sizes c.args.disk.now) (g.D.Disk.sizes c.step.new.disk) c.requires.merging.apart (returns-in_err-some-clause-writes g c).elsewhere c.requires.ready
+
+pub returns-in_err-some-clause-readable : goal.returns-in_err-some-clause-readable
+returns-in_err-some-clause-readable g c =
+    readable_apart g.D.Disk.moment g.D.Disk.images_since c.args.disk.now c.step.new.disk (g.D.Disk.seen c.args.disk.now) (g.D.Disk.images c.args.disk.now) c.args.tables.now c.args.self.builder.file c.requires.merging.apart (returns-in_err-some-clause-writes g c).any_moment
+
+pub returns-then-not-some-clause-tables : goal.returns-then-not-some-clause-tables
+returns-then-not-some-clause-tables g c =
+    ready_apart c.args.tables.now c.args.self.builder.file (g.D.Disk.seen c.args.disk.now) (g.D.Disk.seen c.end.new.disk) (g.D.Disk.sizes c.args.disk.now) (g.D.Disk.sizes c.end.new.disk) c.requires.merging.apart (returns-then-not-some-clause-writes g c).elsewhere c.requires.ready
+
+pub returns-then-not-some-clause-readable : goal.returns-then-not-some-clause-readable
+returns-then-not-some-clause-readable g c =
+    readable_apart g.D.Disk.moment g.D.Disk.images_since c.args.disk.now c.end.new.disk (g.D.Disk.seen c.args.disk.now) (g.D.Disk.images c.args.disk.now) c.args.tables.now c.args.self.builder.file c.requires.merging.apart (returns-then-not-some-clause-writes g c).any_moment
+
+pub returns-clause-readable : goal.returns-clause-readable
+returns-clause-readable g c =
+    readable_apart g.D.Disk.moment g.D.Disk.images_since c.args.disk.now c.rows.disk (g.D.Disk.seen c.args.disk.now) (g.D.Disk.images c.args.disk.now) c.args.tables.now c.args.self.builder.file c.requires.merging.apart c.rows.invariant.writes.any_moment
