@@ -1,5 +1,5 @@
-//! Rows of `sorted_table` and `merge_rows`: tables in the files of a disk in memory. A row of a table is a reversed hash,
-//! a name and a size or `tomb`, in partition 0 of directory 1.
+//! Rows of `sorted_table` and `merge_rows`: tables in the files of a disk in memory. A row of a table is a reversed
+//! hash, a name and a size or `tomb`, in partition 0 of directory 1.
 ghost use Rattle.std.specs.Prelude.{◌≡◌, IfOk};
 ghost use Rattle.sorted_table.specs.TableRows.{IsMarked};
 ghost use Rattle.sorted_table.specs.Tables.{IsReady};
@@ -15,8 +15,8 @@ use row_words::{
 use sorted_table::{Builder, Held, Table, TableDamage, TableFault};
 use std::alloc::Global;
 
-/// `disk OUTCOME FAILS ACTION; ..` on a new disk, and `each OUTCOME FAILS ACTION; ..`, which is run for each K from 0 on
-/// up to the first run in which no call failed.
+/// `disk OUTCOME FAILS ACTION; ..` on a new disk, and `each OUTCOME FAILS ACTION; ..`, which is run for each K from 0
+/// on up to the first run in which no call failed.
 pub(crate) fn answer(alloc: Global, mut words: Words<'_>) -> Answer {
     match words.word()? {
         "disk" => run(alloc, words),
@@ -46,8 +46,8 @@ fn run(alloc: Global, mut words: Words<'_>) -> Answer {
     Ok(out)
 }
 
-/// `make FILE COUNT ROW..` and `fill FILE FROM TO NAME SIZE`, `open FILE`, `get FILE REV NAME` and `seek FILE REV NAME`,
-/// each of which opens the table, as `damages FILE` does, which changes each byte in turn, `merge FILE BLOCKS TURNS TABLE,..`, and the actions of a disk.
+/// `make FILE COUNT ROW..` and `fill FILE FROM TO NAME SIZE`; `open FILE`, `get FILE REV NAME`, `seek FILE REV NAME` and
+/// `damages FILE`, each of which opens the table; `merge FILE BLOCKS TURNS TABLE,..`; and the actions of a disk.
 fn act_on<D: Disk>(alloc: Global, disk: &mut Fuse<D>, words: Words<'_>) -> Answer {
     let mut rest = words;
     match rest.word()? {

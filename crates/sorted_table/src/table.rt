@@ -54,8 +54,8 @@ impl Table {
         self.firsts.len()
     }
 
-    /// Opens the table in a file: reads all of it, through the frame. `Damaged` comes exactly where the file is too short
-    /// for the counts and the sum, where its sum is another, or where it spells no table, in this order.
+    /// Opens the table in a file: reads all of it, through the frame. `Damaged` comes exactly where the file is too
+    /// short for the counts and the sum, where its sum is another, or where it spells no table, in this order.
     pub fn open_file<D: Disk>(
         alloc: Global,
         disk: &mut D,
@@ -139,8 +139,8 @@ impl Table {
         }
     }
 
-    /// The rows of the block at a place, from 0 up, and one at least: the rows of all blocks, one after another, are the
-    /// table's. It reads this block alone.
+    /// The rows of the block at a place, from 0 up, and one at least: the rows of all blocks, one after another, are
+    /// the table's. It reads this block alone.
     pub fn block_rows<D: Disk>(
         &self,
         alloc: Global,
@@ -170,8 +170,8 @@ impl Table {
     }
 }
 
-/// The law that makes a table's rows and `Damaged` exact: a file holds the rows of one table at most, and a damaged file
-/// holds none.
+/// The law that makes a table's rows and `Damaged` exact: a file holds the rows of one table at most, and a damaged
+/// file holds none.
 pub fn one_table_law()
     ensures one_table { HoldsOneTable }
     ensures either { IsEitherTableOrDamaged }
