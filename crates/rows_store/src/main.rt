@@ -2,6 +2,8 @@
 //! `crates/rows/README.md` says what a row is.
 #![tactic(auto)]
 
+mod damages;
+mod merges;
 mod tables;
 
 use row_words::{Answer, RowFault, Table, Words, print};
@@ -18,7 +20,7 @@ struct Calls;
 impl Table for Calls {
     fn answer(alloc: Global, mut words: Words<'_>) -> Answer {
         match words.word()? {
-            "sorted_table" => tables::answer(alloc, words),
+            "sorted_table" | "merge_rows" => tables::answer(alloc, words),
             _ => Err(RowFault::NotARow),
         }
     }

@@ -1,9 +1,11 @@
-//! Rows of `sorted_table`: tables in the files of a disk in memory. A row of a table is a reversed hash, a name and a
-//! size or `tomb`, in partition 0 of directory 1.
+//! Rows of `sorted_table` and `merge_rows`: tables in the files of a disk in memory. A row of a table is a reversed
+//! hash, a name and a size or `tomb`, in partition 0 of directory 1.
 ghost use Rattle.std.specs.Prelude.{◌≡◌, IfOk};
 ghost use Rattle.sorted_table.specs.TableRows.{IsMarked};
 ghost use Rattle.sorted_table.specs.Tables.{IsReady};
 
+use crate::damages::damages;
+use crate::merges::merge;
 use frame_pool::{Frame, Pool};
 use mds_base::{Attr, RowKey};
 use mds_out::{Disk, Fuse};
@@ -13,8 +15,8 @@ use row_words::{
 use sorted_table::{Builder, Held, Table, TableDamage, TableFault};
 use std::alloc::Global;
 
-/// `disk OUTCOME FAILS ACTION; ..` on a new disk, and `each OUTCOME FAILS ACTION; ..`, which is run for each K from 0 on
-/// up to the first run in which no call failed.
+/// `disk OUTCOME FAILS ACTION; ..` on a new disk, and `each OUTCOME FAILS ACTION; ..`, which is run for each K from 0
+/// on up to the first run in which no call failed.
 pub(crate) fn answer(alloc: Global, mut words: Words<'_>) -> Answer {
     match words.word()? {
         "disk" => run(alloc, words),
@@ -44,15 +46,18 @@ fn run(alloc: Global, mut words: Words<'_>) -> Answer {
     Ok(out)
 }
 
-/// `make FILE COUNT ROW..`, `open FILE`, `get FILE REV NAME` and `seek FILE REV NAME`, each of which but the first opens
-/// the table, and the actions of a disk.
+/// `make FILE COUNT ROW..` and `fill FILE FROM TO NAME SIZE`; `open FILE`, `get FILE REV NAME`, `seek FILE REV NAME` and
+/// `damages FILE`, each of which opens the table; `merge FILE BLOCKS TURNS TABLE,..`; and the actions of a disk.
 fn act_on<D: Disk>(alloc: Global, disk: &mut Fuse<D>, words: Words<'_>) -> Answer {
     let mut rest = words;
     match rest.word()? {
         "make" => make(alloc, disk, rest),
+        "fill" => fill(alloc, disk, rest),
+        "merge" => merge(alloc, disk, rest),
         "open" => look(alloc, disk, Asked::Open, rest),
         "get" => look(alloc, disk, Asked::Get, rest),
         "seek" => look(alloc, disk, Asked::Seek, rest),
+        "damages" => look(alloc, disk, Asked::Damages, rest),
         _ => act(alloc, disk, words),
     }
 }
@@ -65,6 +70,34 @@ fn make<D: Disk>(alloc: Global, disk: &mut D, mut words: Words<'_>) -> Answer {
     for _row in 0..count {
         let key = key_of(alloc, &mut words)?;
         let attr = attr_of(&mut words)?;
+        match builder.add(alloc, disk, &key, attr.as_ref()) {
+            Ok(()) => {}
+            Err(fault) => return refused(alloc, fault),
+        }
+    }
+    match builder.finish(disk) {
+        Ok(_) => text(alloc, "ok"),
+        Err(fault) => refused(alloc, fault),
+    }
+}
+
+/// A table of the rows of one name whose reversed hashes are from one up to before another.
+fn fill<D: Disk>(alloc: Global, disk: &mut D, mut words: Words<'_>) -> Answer {
+    let file = words.small()?;
+    let from = words.number()?;
+    let to = words.number()?;
+    let named = words;
+    words.word()?;
+    let attr = attr_of(&mut words)?;
+    let mut builder = Builder::new(alloc, file)?;
+    for rev in from..to {
+        let mut name = named;
+        let key = RowKey {
+            dir: 1,
+            part: 0,
+            rev,
+            name: name.name(alloc)?,
+        };
         match builder.add(alloc, disk, &key, attr.as_ref()) {
             Ok(()) => {}
             Err(fault) => return refused(alloc, fault),
@@ -110,6 +143,7 @@ enum Asked {
     Open,
     Get,
     Seek,
+    Damages,
 }
 
 fn look<D: Disk>(alloc: Global, disk: &mut D, asked: Asked, words: Words<'_>) -> Answer {
@@ -153,6 +187,7 @@ fn look_into<D: Disk>(
         Asked::Open => text(alloc, "ok"),
         Asked::Get => get(alloc, disk, frame, table, words),
         Asked::Seek => seek(alloc, disk, frame, table, words),
+        Asked::Damages => damages(alloc, disk, frame, table.file()),
     }
 }
 
@@ -194,7 +229,7 @@ fn seek<D: Disk>(
 }
 
 /// `spelling at PLACE`, `sum at PLACE`, or the row's fault.
-fn refused(alloc: Global, fault: TableFault) -> Answer {
+pub(crate) fn refused(alloc: Global, fault: TableFault) -> Answer {
     match fault {
         TableFault::Device => Err(RowFault::Device),
         TableFault::OutOfMemory => Err(RowFault::OutOfMemory),
