@@ -1,6 +1,6 @@
 -- The steps of a change of root, on the bytes of the file.
-use Rattle.std.proofs.Common.{◌≡◌, ◌⊎◌, inl, inr, ⊎_elim, refl, sym, ap, subst, ◌∙◌, ℕ, ◌+◌, ◌-◌, ◌<◌, ◌≤◌, max, List, [], ◌∷◌, ◌++◌, length, take, drop, get_or, Bool, true, false, nat_lt, nat_eq, Option, Some, None, arith}
-use Rattle.std.specs.Prelude.{slice_index, ⊤, is_some, replicate, if◌then◌else◌}
+use Rattle.std.proofs.Common.{◌≡◌, inl, inr, ⊎_elim, refl, sym, ap, subst, ◌∙◌, ℕ, ◌+◌, ◌-◌, ◌<◌, ◌≤◌, List, [], ◌∷◌, ◌++◌, length, take, drop, get_or, Bool, true, false, nat_lt, Option, Some, None, arith}
+use Rattle.std.specs.Prelude.{slice_index, is_some, replicate, if◌then◌else◌}
 use Rattle.std.proofs.lemmas.Bool.{cases_eq, cases_lt}
 use Rattle.std.proofs.lemmas.Bool.Decides.{nat_tests}
 use Rattle.std.proofs.lemmas.List.{get_or-replicate, length-replicate}
@@ -12,14 +12,13 @@ use Rattle.root_slots.specs.declared.content.Slot.TheVariants.{First, Second}
 use Rattle.root_slots.specs.declared.content.Content.{Content}
 use Rattle.root_slots.specs.declared.content.Content.TheVariants.{Closed, Open, Bad}
 use Rattle.root_slots.specs.declared.content.Flaw.{Flaw}
-use Rattle.root_slots.specs.declared.content.Flaw.TheVariants.{Count, WrongSum, Range}
-use Rattle.root_slots.specs.declared.content.Found.{Found}
-use Rattle.root_slots.specs.declared.content.Found.TheVariants.{New, InForce, Damaged}
+use Rattle.root_slots.specs.declared.content.Flaw.TheVariants.{Count, Range}
+use Rattle.root_slots.specs.declared.content.Found.TheVariants.{New, InForce}
 use Rattle.root_slots.specs.declared.root_slots.Force.{Force}
 use Rattle.root_slots.specs.declared.root_slots.RootSlots.{RootSlots}
-use Rattle.root_slots.specs.declared.root_slots.Step.TheVariants.{Begun, Emptied, Filled}
+use Rattle.root_slots.specs.declared.root_slots.Step.TheVariants.{Begun, Filled}
 use Rattle.root_slots.specs.Root.{is_root}
-use Rattle.root_slots.specs.Slot.{chosen, place_of, other_of, behind, content_at, open_content, summed_content, root_content, root_read, found_in}
+use Rattle.root_slots.specs.Slot.{chosen, place_of, other_of, behind, content_at, open_content, root_content, root_read, found_in}
 use Rattle.root_slots.specs.Slots.{spare, emptied, filled, opened, filled_root, IsAbove, IsForce, IsFilled, IsOldOrNew, Stands}
 use Rattle.root_slots.proofs.Choice.{whole_found, none_in, root_held, none_found, some_found, same_found, stays_in_force, comes_in}
 use Rattle.root_slots.proofs.Windows.{get_left, place_small, apart, content_closed, content_open, gate_shut, torn_apart, torn_gate, torn_gate_content, torn_behind, length-put, put_torn, put_gate, put_behind}

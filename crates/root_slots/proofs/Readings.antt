@@ -1,6 +1,6 @@
 -- What was read of file 0.
-use Rattle.std.proofs.Common.{◌≡◌, ◌⊎◌, inl, inr, ⊎_elim, refl, sym, ap, subst, ◌∙◌, ℕ, ◌+◌, ◌<◌, ◌≤◌, List, length, take, drop, get_or, Bool, true, false, Option, Some, None, arith}
-use Rattle.std.specs.Prelude.{slice_index, ◌&&◌, ⊤, IfOk, Ok, IsErrOf}
+use Rattle.std.proofs.Common.{◌≡◌, refl, sym, ap, subst, ◌∙◌, ℕ, ◌+◌, ◌<◌, ◌≤◌, List, length, take, drop, get_or, Bool, true, false, Option, Some, None, arith}
+use Rattle.std.specs.Prelude.{slice_index, ◌&&◌, IfOk, IfSome, Ok, IsErrOf}
 use Rattle.root_slots.specs.declared.root_slots.RootFault.TheVariants.{Device, Stopped}
 use Rattle.std.proofs.lemmas.List.{get_or-take, get_or-drop}
 use Rattle.mds_out.specs.Disk.{Image, Contents, Lengths}
@@ -12,12 +12,12 @@ use Rattle.root_slots.specs.declared.content.Content.{Content}
 use Rattle.root_slots.specs.declared.content.Content.TheVariants.{Closed, Open, Bad}
 use Rattle.root_slots.specs.declared.content.Found.{Found}
 use Rattle.root_slots.specs.declared.content.Found.TheVariants.{New, InForce, Damaged}
-use Rattle.root_slots.specs.declared.root_slots.Force.{Force}
 use Rattle.root_slots.specs.declared.root_slots.RootSlots.{RootSlots}
 use Rattle.root_slots.specs.declared.root_slots.Step.TheVariants.{Begun}
-use Rattle.root_slots.specs.Slot.{place_of, other_of, behind, content_at, open_content, chosen, found_in, is_open, are_slots}
-use Rattle.root_slots.specs.Slots.{answer_of, value_of, HasRootCause, IsRead, IsAsRead, IsForce, spare, Stands, IsKept, IsReady}
-use Rattle.root_slots.proofs.Choice.{IsSound, whole_found, none_in, root_held, other_sound}
+use Rattle.root_slots.specs.Root.{is_root}
+use Rattle.root_slots.specs.Slot.{HoldsRoot, FindsRoot, place_of, other_of, content_at, open_content, chosen, found_in, is_open, are_slots}
+use Rattle.root_slots.specs.Slots.{answer_of, value_of, HasRootCause, IsRead, IsAsRead, IsForce, Stands, IsKept, IsReady}
+use Rattle.root_slots.proofs.Choice.{IsSound, IsChosen, is_chosen, whole_found, none_in, root_held, other_sound}
 use Rattle.root_slots.proofs.Windows.{content_closed, content_open, gate_shut}
 use Rattle.root_slots.proofs.Changing.{gate_is_open, short_new}
 
@@ -192,6 +192,20 @@ pub never_device : (found : Found) (both : Bool) → IsErrOf (answer_of found bo
 never_device New both is = cc
 never_device (InForce slot root) both is = cc
 never_device (Damaged place damage) both is = cc
+
+pub chosen_root : (a b : Content) → HoldsRoot a → HoldsRoot b → FindsRoot (chosen a b)
+chosen_root a b first second = root_in_slots (chosen a b) a b (is_chosen a b) first second
+  where
+    root_in_slots : (found : Found) (a b : Content) → IsChosen found a b → HoldsRoot a → HoldsRoot b → FindsRoot found
+    root_in_slots New a b is first second = tt
+    root_in_slots (InForce First root) a b is first second = subst HoldsRoot is.0 first
+    root_in_slots (InForce Second root) a b is first second = subst HoldsRoot is.0 second
+    root_in_slots (Damaged place damage) a b is first second = tt
+
+pub root_answer : (found : Found) (both : Bool) → FindsRoot found → IfOk (answer_of found both) (λ read. IfSome read.1 (λ root. is_root root ≡ true))
+root_answer New both is = tt
+root_answer (InForce slot root) both is = is
+root_answer (Damaged place damage) both is = tt
 
 pub never_stopped : (found : Found) (both : Bool) → IsErrOf (answer_of found both) Stopped → ⊥
 never_stopped New both is = cc

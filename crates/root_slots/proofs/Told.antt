@@ -1,5 +1,5 @@
 -- The steps of a change of root, on a disk that may tell what it holds.
-use Rattle.std.proofs.Common.{◌≡◌, refl, sym, ap, subst, ◌∙◌, ℕ, ◌+◌, ◌≤◌, max, List, [], ◌∷◌, length, Option, Some, None, true, false, arith}
+use Rattle.std.proofs.Common.{◌≡◌, refl, sym, ap, subst, ◌∙◌, ℕ, ◌+◌, max, List, [], ◌∷◌, length, Option, Some, None, true, false, arith}
 use Rattle.mds_out.specs.Disk.{Image, Contents, Lengths, Tells, LeavesOnly, put}
 use Rattle.mds_out.specs.Images.{IsTorn}
 use Rattle.mds_out.specs.Known.{OnKnown, OnTold}

@@ -1,9 +1,9 @@
 -- What writes into file 0 leave of its slots.
-use Rattle.std.proofs.Common.{◌≡◌, ◌⊎◌, inl, inr, ⊎_elim, refl, sym, ap, subst, ◌∙◌, ℕ, ◌+◌, ◌-◌, ◌<◌, ◌≤◌, max, List, [], ◌∷◌, ◌++◌, length, take, drop, get_or, Bool, true, false, nat_eq, nat_lt, arith, append_assoc, length-append}
+use Rattle.std.proofs.Common.{◌≡◌, ◌⊎◌, inl, inr, ⊎_elim, refl, sym, ap, ◌∙◌, ℕ, ◌+◌, ◌-◌, ◌<◌, ◌≤◌, max, List, [], ◌∷◌, ◌++◌, length, take, drop, get_or, Bool, true, false, arith, append_assoc, length-append}
 use Rattle.std.specs.Prelude.{slice_index, ◌==◌, if◌then◌else◌}
 use Rattle.std.proofs.lemmas.Bool.{cases_eq}
 use Rattle.std.proofs.lemmas.Bool.Decides.{nat_tests}
-use Rattle.std.proofs.lemmas.List.{take_at, drop_at, drop-drop, take_all, length-drop, length-take-le, get_or-take, get_or-drop, get_or-append-add, get_or-append_right, ext_get_or}
+use Rattle.std.proofs.lemmas.List.{take_at, drop_at, length-drop, length-take-le, get_or-take, get_or-drop, get_or-append_right, ext_get_or}
 use Rattle.std.proofs.Math.Seq.{take-append-add}
 use Rattle.mds_out.specs.Disk.{put}
 use Rattle.mds_out.specs.Images.{IsTorn}
@@ -15,7 +15,7 @@ use Rattle.root_slots.specs.declared.content.Flaw.{Flaw}
 use Rattle.root_slots.specs.declared.content.Flaw.TheVariants.{Count, Range}
 use Rattle.root_slots.specs.declared.root.Root.{Root}
 use Rattle.root_slots.specs.Root.{is_root}
-use Rattle.root_slots.specs.Slot.{place_of, other_of, behind, content_at, open_content, summed_content, root_content, root_read}
+use Rattle.root_slots.specs.Slot.{place_of, other_of, behind, content_at, open_content, root_content, root_read}
 
 pub place_small : (slot : Slot) → place_of slot ≤ 1024
 place_small First = omega arith

@@ -1,7 +1,7 @@
 -- What file 0 says. It has two slots, at bytes 0 and 1024. A slot is a gate of one byte, 01 where it is open, and behind it:
 -- the root's number (8 bytes), its state file (4), its log file (4), how many tables it has (1), these tables (4 each), and
 -- the MD5 of all this. Numbers stand with the highest byte first.
-use Rattle.std.specs.Prelude.{ℕ, zero, suc, ◌+◌, ◌*◌, List, [], ◌∷◌, ◌++◌, length, take, drop, slice_index, slice_range, ◌≡◌, Bool, true, false, ◌&&◌, ◌==◌, nat_eq, nat_lt, if◌then◌else◌, Option, Some, None}
+use Rattle.std.specs.Prelude.{ℕ, zero, suc, ◌+◌, ◌*◌, List, [], ◌∷◌, ◌++◌, length, take, drop, slice_index, slice_range, ◌≡◌, Bool, true, false, ◌&&◌, ◌==◌, nat_eq, nat_lt, if◌then◌else◌, Option, Some, None, ⊤}
 use Rattle.std.specs.Int.{to_be_bytes, w32, w64}
 use Rattle.std.specs.Cmp.Lexicographic.{pointwise}
 use Rattle.byteorder.specs.Endian.{big_number}
@@ -9,7 +9,6 @@ use Rattle.md5.specs.Md5.{md5}
 use Rattle.root_slots.specs.Root.{is_root}
 use Rattle.root_slots.specs.declared.TheConstants.{BEHIND_BYTES, COUNT_AT, FILE_BYTES, OPEN, SUM_BYTES, TABLES_AT, TABLES_MOST}
 use Rattle.root_slots.specs.declared.root.Root.{Root}
-use Rattle.root_slots.specs.declared.root_slots.SlotDamage.{SlotDamage}
 use Rattle.root_slots.specs.declared.root_slots.SlotDamage.TheVariants.{Spelling, Sum}
 use Rattle.root_slots.specs.declared.content.Slot.{Slot}
 use Rattle.root_slots.specs.declared.content.Slot.TheVariants.{First, Second}
@@ -83,6 +82,12 @@ behind file slot = take BEHIND_BYTES (drop (place_of slot + 1) file)
 abbrev pub content_at : List ℕ → Slot → Content
 content_at file slot = if slice_index file (place_of slot) == OPEN then open_content (behind file slot) else Closed
 
+-- an open slot holds a root that a slot can have
+abbrev pub HoldsRoot : Content → Type 0
+HoldsRoot Closed = ⊤
+HoldsRoot (Open root) = is_root root ≡ true
+HoldsRoot (Bad flaw) = ⊤
+
 -- ---- which counts
 
 -- which damage is named where both slots are damaged
@@ -121,6 +126,12 @@ are_slots file found both = (found ≡ chosen (content_at file First) (content_a
 -- what file 0 says: a file of fewer than 2048 bytes has no open slot
 abbrev pub found_in : List ℕ → Found
 found_in file = if nat_lt (length file) FILE_BYTES then New else chosen (content_at file First) (content_at file Second)
+
+-- a root that was found is one that a slot can have
+abbrev pub FindsRoot : Found → Type 0
+FindsRoot New = ⊤
+FindsRoot (InForce slot root) = is_root root ≡ true
+FindsRoot (Damaged place damage) = ⊤
 
 -- the root in force
 abbrev pub root_of : Found → Option Root

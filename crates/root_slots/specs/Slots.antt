@@ -1,6 +1,5 @@
 -- The value of the slots, and what the disk owes it.
 use Rattle.std.specs.Prelude.{◌≡◌, ◌≢◌, ◌⊎◌, ◌<◌, ◌≤◌, ℕ, Bool, List, slice_index, length, true, false, ⊤, Option, Some, None, is_some, Result, Ok, Err, OnOk, IfErr, IsErrOf}
-use Rattle.root_slots.specs.Root.{is_root}
 use Rattle.root_slots.specs.Slot.{place_of, other_of, behind, open_content, root_read, found_in}
 use Rattle.root_slots.specs.declared.TheConstants.{FILE_BYTES, OPEN}
 use Rattle.root_slots.specs.declared.root.Root.{Root}
@@ -15,7 +14,6 @@ use Rattle.root_slots.specs.declared.root_slots.Step.{Step}
 use Rattle.root_slots.specs.declared.root_slots.Step.TheVariants.{Begun, Emptied, Filled}
 use Rattle.root_slots.specs.declared.root_slots.RootFault.{RootFault}
 use Rattle.root_slots.specs.declared.root_slots.RootFault.TheVariants as fault
-use Rattle.root_slots.specs.declared.root_slots.SlotDamage.{SlotDamage}
 use Rattle.mds_out.specs.declared.disk.DiskFault.{DiskFault}
 use Rattle.mds_out.specs.declared.disk.DiskFault.TheVariants as disk
 use Rattle.mds_out.specs.Disk.{Image, Contents, Lengths}

@@ -1,7 +1,7 @@
 //! What file 0 says: the content of its slots, and which of them counts.
 ghost use Rattle.std.specs.Prelude.{◌≡◌, ◌+◌, ◌*◌, ◌≤◌, length, slice_index, IfOk};
 ghost use Rattle.root_slots.specs.declared.content.Content.TheVariants.{Bad, Open};
-ghost use Rattle.root_slots.specs.Slot.{tables_in, root_read, open_content, place_of, other_of, rank_of, damaged, is_open, chosen};
+ghost use Rattle.root_slots.specs.Slot.{HoldsRoot, FindsRoot, tables_in, root_read, open_content, place_of, other_of, rank_of, damaged, is_open, chosen};
 
 use crate::root::{FileList, Root};
 use crate::root_slots::SlotDamage;
@@ -118,7 +118,8 @@ pub(crate) enum Found {
 /// What stands behind an open gate.
 pub(crate) fn behind_gate(alloc: Global, bytes: &[u8]) -> Result<Content, AllocError>
     requires { length bytes.now ≡ BEHIND_BYTES }
-    ensures { IfOk result (λ content. content ≡ open_content bytes.now) }
+    ensures content { IfOk result (λ content. content ≡ open_content bytes.now) }
+    ensures root { IfOk result HoldsRoot }
 {
     let count = bytes[COUNT_AT] as usize;
     if count > TABLES_MOST {
@@ -174,7 +175,8 @@ fn read_tables(alloc: Global, bytes: &[u8], count: usize) -> Result<FileList, Al
 
 /// Which slot counts, or what is damaged.
 pub(crate) fn choose(first: Content, second: Content) -> Found
-    ensures { result ≡ chosen first second }
+    ensures chosen { result ≡ chosen first second }
+    ensures root { HoldsRoot first → HoldsRoot second → FindsRoot result }
 {
     match first {
         Content::Bad(flaw) => choose_damaged(flaw, second),

@@ -3,7 +3,7 @@ ghost use Rattle.std.specs.Prelude.{◌≡◌, ◌+◌, ◌^◌, ◌<◌, ◌≤
 ghost use Rattle.mds_out.specs.Calls.{next_number};
 ghost use Rattle.mds_out.specs.Disk.{Image, AreSame, LeavesOnly, IsUnchanged, HasDiskCause};
 ghost use Rattle.mds_out.specs.Known.{OnTold};
-ghost use Rattle.root_slots.specs.Slot.{content_at, is_open, are_slots};
+ghost use Rattle.root_slots.specs.Slot.{HoldsRoot, FindsRoot, content_at, is_open, are_slots};
 ghost use Rattle.root_slots.specs.Slots.{IsDiskAnswer, HasRootCause};
 ghost use Rattle.root_slots.specs.declared.TheConstants.{FILE_BYTES};
 
@@ -40,6 +40,7 @@ pub(crate) fn read_slots<D: Disk>(
     requires whole { FILE_BYTES ≤ size }
     requires short { size < 2 ^ 63 }
     ensures found { IfOk result (λ read. OnTold (D.seen disk.old 0) (λ file. are_slots file read.0 read.1)) }
+    ensures root { IfOk result (λ read. FindsRoot read.0) }
     ensures answer { IsDiskAnswer result }
     ensures unchanged { IsUnchanged (D.seen disk.old) (D.seen disk.new) (D.sizes disk.old) (D.sizes disk.new) }
     ensures crash { AreSame (D.images disk.old) (D.images disk.new) }
@@ -72,6 +73,7 @@ fn read_slot<D: Disk>(
     requires whole { FILE_BYTES ≤ size }
     requires short { size < 2 ^ 63 }
     ensures content { IfOk result (λ content. OnTold (D.seen disk.old 0) (λ file. content ≡ content_at file slot)) }
+    ensures root { IfOk result HoldsRoot }
     ensures answer { IsDiskAnswer result }
     ensures unchanged { IsUnchanged (D.seen disk.old) (D.seen disk.new) (D.sizes disk.old) (D.sizes disk.new) }
     ensures crash { AreSame (D.images disk.old) (D.images disk.new) }

@@ -1,5 +1,5 @@
 //! The two slots of a disk.
-ghost use Rattle.std.specs.Prelude.{◌≡◌, ◌≢◌, ◌⊎◌, ◌+◌, ◌≤◌, ℕ, true, false, Ok, Err, Some, None, IfOk, OnOk, OnErr, IsErrOf};
+ghost use Rattle.std.specs.Prelude.{◌≡◌, ◌≢◌, ◌⊎◌, ◌+◌, ◌≤◌, ℕ, true, false, Ok, Err, Some, None, IfOk, IfSome, OnOk, OnErr, IsErrOf};
 ghost use Rattle.gate_log.specs.LogState.{IsElsewhereOld};
 ghost use Rattle.mds_out.specs.Disk.{LeavesOnly, IsUnchanged, IsElsewhereUnchanged, Tells};
 ghost use Rattle.mds_out.specs.Known.{OnTold};
@@ -117,6 +117,7 @@ impl RootSlots {
         ensures begun { IfOk result (λ read. (read.0.step ≡ Begun) × (read.0.stopped ≡ false)) }
         ensures value { IfOk result (λ read. IsAsRead read.0 read.1) }
         ensures read { OnTold (D.seen disk.old 0) (λ file. IsRead (found_in file) result) }
+        ensures root { IfOk result (λ read. IfSome read.1 (λ root. is_root root ≡ true)) }
         ensures not_stopped { IsErrOf result RootFault.Stopped → ⊥ }
         ensures unchanged { IsUnchanged (D.seen disk.old) (D.seen disk.new) (D.sizes disk.old) (D.sizes disk.new) }
         ensures any_moment { LeavesOnly D.moment D.images_since disk.old disk.new (D.images disk.old) }

@@ -2,6 +2,7 @@
 //! `crates/rows/README.md` says what a row is.
 #![tactic(auto)]
 
+mod roots;
 mod tables;
 
 use row_words::{Answer, RowFault, Table, Words, print};
@@ -18,6 +19,7 @@ struct Calls;
 impl Table for Calls {
     fn answer(alloc: Global, mut words: Words<'_>) -> Answer {
         match words.word()? {
+            "root_slots" => roots::answer(alloc, words),
             "sorted_table" => tables::answer(alloc, words),
             _ => Err(RowFault::NotARow),
         }

@@ -9,7 +9,7 @@ returns-clause-content g c =
     let P : Option (List ℕ) → Type 0 = λ seen. OnTold seen (λ bytes. c.read_at-2.new.into ≡ take 1023 (drop (c.place-2.result + 1) bytes)) in
     let rest = subst P (c.read_at.ensures.unchanged.bytes 0) c.in_ok-read_at-2.ensures.bytes in
     told_as (g.D.Disk.seen c.args.disk.now 0) (λ file. open_content c.read_at-2.new.into ≡ content_at file c.args.slot) (λ file. c.in_ok-behind_gate.field-0 ≡ content_at file c.args.slot)
-    (λ file is. c.in_ok-behind_gate.ensures ∙ is)
+    (λ file is. c.in_ok-behind_gate.ensures.content ∙ is)
     (open_read (g.D.Disk.seen c.args.disk.now 0) c.args.slot c.place.result c.place-2.result c.read_at.new.into c.read_at-2.new.into c.place.ensures.place c.place-2.ensures.place c.in_ok-read_at.ensures.bytes c.if-gate-ne-OPEN.false rest)
 
 pub returns-clause-lasts : goal.returns-clause-lasts

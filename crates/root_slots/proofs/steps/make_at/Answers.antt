@@ -1,8 +1,5 @@
-use Rattle.std.proofs.Common.{◌≡◌, ◌∙◌, refl, sym, ap, subst, ◌+◌, ℕ, List, [], ◌∷◌, length, arith}
-use Rattle.std.proofs.lemmas.Result.{on_ok_weaker}
+use Rattle.std.proofs.Common.{refl, ℕ}
 use Rattle.gate_log.proofs.Appends.{on_ok_three}
-use Rattle.mds_out.specs.Disk.{put}
-use Rattle.mds_out.specs.Images.{IsTorn}
 use Rattle.std.proofs.Common.{replicate}
 use Rattle.std.proofs.lemmas.List.{length-replicate}
 use Rattle.root_slots.proofs.Told.{first_moment, both_moments, ready_made}

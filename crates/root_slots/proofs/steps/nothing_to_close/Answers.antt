@@ -1,4 +1,4 @@
-use Rattle.std.proofs.Common.{◌≡◌, refl, sym, ap, Bool}
+use Rattle.std.proofs.Common.{◌≡◌, refl, ap, Bool}
 use Rattle.root_slots.specs.declared.root_slots.Step.TheVariants.{Emptied}
 use Rattle.root_slots.specs.Slot.{found_in}
 use Rattle.root_slots.specs.Slots.{emptied}

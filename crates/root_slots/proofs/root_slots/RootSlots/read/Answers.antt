@@ -1,5 +1,5 @@
-use Rattle.std.proofs.Common.{◌≡◌, ◌∙◌, sym, subst, false, List, ℕ, Option, Some, Result, arith}
-use Rattle.std.specs.Prelude.{IfOk, IsErrOf}
+use Rattle.std.proofs.Common.{◌≡◌, ◌∙◌, sym, subst, true, false, List, ℕ, Option, Some, Result, arith}
+use Rattle.std.specs.Prelude.{IfOk, IfSome, IsErrOf}
 use Rattle.mds_out.specs.Disk.{Image}
 use Rattle.mds_out.specs.Known.{OnTold}
 use Rattle.root_slots.specs.declared.root.Root.{Root}
@@ -7,9 +7,10 @@ use Rattle.root_slots.specs.declared.root_slots.RootFault.{RootFault}
 use Rattle.root_slots.specs.declared.root_slots.RootFault.TheVariants.{Device, Stopped}
 use Rattle.root_slots.specs.declared.root_slots.RootSlots.{RootSlots}
 use Rattle.root_slots.specs.declared.root_slots.Step.TheVariants.{Begun}
+use Rattle.root_slots.specs.Root.{is_root}
 use Rattle.root_slots.specs.Slot.{found_in, are_slots}
 use Rattle.root_slots.specs.Slots.{answer_of, IsRead, IsAsRead, IsReady, HasRootCause}
-use Rattle.root_slots.proofs.Readings.{told_as, ready_answer, begun_answer, value_answer, read_answer, never_device, never_stopped, cause_answer}
+use Rattle.root_slots.proofs.Readings.{told_as, ready_answer, begun_answer, value_answer, read_answer, root_answer, never_device, never_stopped, cause_answer}
 use Rattle.root_slots.proofs.root_slots.RootSlots.read.Goals as goal
 
 abbrev Answer : Type 0
@@ -49,6 +50,11 @@ returns-clause-read g c =
     subst P (c.synced_length.ensures.unchanged.bytes 0)
     (told_as (g.D.Disk.seen mid 0) (λ file. IsRead (found_in file) (answer_of c.in_ok-found.found c.in_ok-found.both)) (λ file. IsRead (found_in file) c.settled.result)
     (λ file is. (let R : Answer → Type 0 = λ answer. IsRead (found_in file) answer in subst R (sym c.settled.ensures) is)) read)
+
+pub returns-clause-root : goal.returns-clause-root
+returns-clause-root g c =
+    let R : Answer → Type 0 = λ answer. IfOk answer (λ read. IfSome read.1 (λ root. is_root root ≡ true)) in
+    subst R (sym c.settled.ensures) (root_answer c.in_ok-found.found c.in_ok-found.both c.in_ok-found.ensures.root)
 
 pub returns-clause-not_stopped : goal.returns-clause-not_stopped
 returns-clause-not_stopped g c = λ is.
