@@ -1,5 +1,5 @@
 -- Row keys in their order, the rows of a server as a finite map, and what a page of a partition lists.
-use Rattle.std.specs.Prelude.{ℕ, ◌==◌, Bool, true, List, map, take, refl, Option, Some, None, nat_lt, nat_le, ◌&&◌, ◌||◌, not, unwrap_or, [], ◌∷◌, IsTrue}
+use Rattle.std.specs.Prelude.{ℕ, ◌+◌, ◌-◌, ◌==◌, Bool, true, List, map, take, refl, Option, Some, None, nat_lt, nat_le, ◌&&◌, ◌||◌, not, unwrap_or, [], ◌∷◌, IsTrue}
 use Rattle.std.specs.declared.cmp.Ordering.{Ordering}
 use Rattle.std.specs.List.{AllByRecursion}
 use Rattle.std.specs.Ordering.{nat_cmp, ordering_then, is_lt}
@@ -8,6 +8,8 @@ use Rattle.std.specs.Coded.{Coded, code_by, coded×, coded_list, coded_ℕ}
 use Rattle.std.specs.FinMap as map
 use Rattle.mds_base.specs.declared.attr.Attr.{Attr}
 use Rattle.mds_base.specs.declared.cursor.Cursor.{Cursor}
+use Rattle.mds_base.specs.declared.edit.Edit.{Edit}
+use Rattle.mds_base.specs.declared.edit.Edit.TheVariants.{Keep, Put, Take}
 use Rattle.mds_base.specs.declared.row.Row.{Row}
 use Rattle.mds_base.specs.declared.row_key.RowKey.{RowKey}
 use Rattle.mds_base.specs.Name.{is_name}
@@ -19,6 +21,18 @@ row_key_cmp a b = ordering_then (nat_cmp a.dir b.dir) (ordering_then (nat_cmp a.
 -- the rows of a server: a finite map from keys to attributes
 abbrev pub RowMap : Type 0
 RowMap = map.FinMap row_key_cmp Attr
+
+-- the rows after an edit of the one at a key
+abbrev pub edited_rows : RowMap → RowKey → Edit → RowMap
+edited_rows rows key Keep = rows
+edited_rows rows key (Put attr) = map.insert rows key attr
+edited_rows rows key Take = map.remove rows key
+
+-- how many rows there are after an edit of one, by what stood there; a number that would fall below 0 stays at 0
+abbrev pub edited_count : ℕ → Edit → Option Attr → ℕ
+edited_count count (Put attr) None = count + 1
+edited_count count Take (Some before) = count - 1
+edited_count count edit before = count
 
 -- whether a name stands behind the one of a cursor
 abbrev pub is_after : Option (List ℕ) → List ℕ → Bool

@@ -41,12 +41,12 @@ pub use limits::{
     DIRECTORIES, DIRECTORY_MODE, EPOCHS, FILE_MODE, GRAB_MOST, LOAD_MOST, MODE_MOST, SHORT_NAME,
 };
 pub use map_rows::MapRows;
-pub use name::{Name, NameFault};
+pub use name::{Name, NameFault, is_name};
 pub use place::PlaceList;
 pub use reply::{Final, Reply};
 pub use row::{Row, RowList};
 pub use row_key::{RowKey, laws_of_row_keys};
-pub use rows::{Rows, RowsFault};
+pub use rows::{Rows, RowsFault, edit_row};
 pub use seal::{SealMode, SealState};
 pub use session::{Session, SessionList};
 pub use setup::{Setup, Which};

@@ -104,7 +104,7 @@ impl Name {
         ensures bad_name { IsErrOf result NameFault.BadName ↔ (is_name bytes.now ≡ false) }
         ensures short_is_ok { length bytes.now ≤ SHORT_NAME → IsTrue (is_name bytes.now) → IsOk result }
     {
-        if !is_name_of(bytes) {
+        if !is_name(bytes) {
             return Err(NameFault::BadName);
         }
         let bytes = Kept::of(alloc, bytes)?;
@@ -186,7 +186,8 @@ impl Ord for Name {
     }
 }
 
-fn is_name_of(bytes: &[u8]) -> bool
+/// Whether the bytes are a name (`docs/DEFINITIONS.md`, "Name").
+pub fn is_name(bytes: &[u8]) -> bool
     ensures { result ≡ is_name bytes.now }
 {
     1 <= bytes.len() && bytes.len() <= 255 && !is_dots_of(bytes) && is_plain(bytes)

@@ -1,4 +1,4 @@
-ghost use Rattle.std.specs.Prelude.{◌≡◌, Bool, true, false, filter};
+ghost use Rattle.std.specs.Prelude.{◌≡◌, Bool, true, false, filter, IfOk};
 ghost use Rattle.std.specs.Cmp.{IsTotalOrder};
 ghost use Rattle.std.specs.Ordering.{is_gt};
 ghost use Rattle.std.specs.FinMap as map;
@@ -8,6 +8,7 @@ ghost use Rattle.mds_base.specs.declared.cursor.Cursor.{Cursor};
 ghost use Rattle.mds_base.specs.RowKeys.{row_key_cmp, RowMap, is_past};
 
 use crate::name::Name;
+use std::alloc::{AllocError, Global};
 
 /// Where a row stands. The order is by directory, partition, reversed hash and the bytes of the name.
 #[derive(Debug, Drop, PartialEq, Eq, PartialOrd, Ord)]
@@ -20,6 +21,20 @@ pub struct RowKey {
     pub rev: u64,
     /// The name.
     pub name: Name,
+}
+
+impl RowKey {
+    /// A copy of the key; a name of at most 22 bytes takes no memory.
+    pub fn copy(&self, alloc: Global) -> Result<RowKey, AllocError>
+        ensures { IfOk result (λ copy. copy ≡ self.now) }
+    {
+        Ok(RowKey {
+            dir: self.dir,
+            part: self.part,
+            rev: self.rev,
+            name: self.name.copy(alloc)?,
+        })
+    }
 }
 
 /// The laws of the order of row keys (`docs/DEFINITIONS.md`, "Row keys"), for all keys and all maps of rows.

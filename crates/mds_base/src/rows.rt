@@ -1,10 +1,11 @@
 ghost use Rattle.std.specs.Prelude.{◌≡◌, ℕ, OnOk, OnErr, IfOk};
 ghost use Rattle.std.specs.FinMap as map;
-ghost use Rattle.mds_base.specs.RowKeys.{RowMap, page_of};
+ghost use Rattle.mds_base.specs.RowKeys.{RowMap, edited_rows, page_of};
 ghost use Rattle.mds_base.specs.RowsCause.{HasRowsCause};
 
 use crate::attr::Attr;
 use crate::cursor::Cursor;
+use crate::edit::Edit;
 use crate::row::RowList;
 use crate::row_key::RowKey;
 use std::alloc::{AllocError, AllocFailed, Global};
@@ -82,4 +83,17 @@ pub trait Rows {
         ensures listed { IfOk result (λ rows. rows ≡ page_of (contents self.old) dir part from.now last limit) }
         ensures contents { contents self.new ≡ contents self.old }
         ensures cause { HasRowsCause (faults self.old) (faults self.new) result };
+}
+
+/// Makes an edit of the row at a key. Where it is refused the rows stay as they are.
+pub fn edit_row<R: Rows>(rows: &mut R, key: RowKey, edit: Edit) -> Result<(), RowsFault>
+    ensures ok { OnOk result (R.contents rows.new ≡ edited_rows (R.contents rows.old) key edit) }
+    ensures err { OnErr result (R.contents rows.new ≡ R.contents rows.old) }
+    ensures cause { HasRowsCause (R.faults rows.old) (R.faults rows.new) result }
+{
+    match edit {
+        Edit::Keep => Ok(()),
+        Edit::Put(attr) => rows.put(key, attr),
+        Edit::Take => rows.take_away(&key),
+    }
 }

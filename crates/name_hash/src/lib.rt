@@ -1,19 +1,22 @@
-//! The hash of a name, and the order in which a scan gives names.
+//! The hash of a name, where its row stands, and the order in which a scan gives names.
 //!
-//! It stands on `mds_base` for names, on `chains` for reversed hashes, and on the kit's `md5`. No call takes
-//! memory. The contract for the layers above: `hash` is the first 8 bytes of the MD5 digest as a big-endian
+//! It stands on `mds_base` for names and row keys, on `chains` for reversed hashes, and on the kit's `md5`. Only a
+//! copy of a name of more than 22 bytes takes memory. The contract for the layers above: `hash` is the first 8 bytes of the MD5 digest as a big-endian
 //! number. What is made of a hash, its chain and its reversed form, is in `chains`. The order of a scan is
 //! defined in `specs/ScanOrder.antt`.
 #![tactic(auto)]
 
-ghost use Rattle.std.specs.Prelude.{◌≡◌};
+ghost use Rattle.std.specs.Prelude.{◌≡◌, IfOk};
 ghost use Rattle.std.specs.Cmp.{IsTotalOrder};
 ghost use Rattle.std.specs.FinMap.{IsAntisymmetric};
 ghost use Rattle.name_hash.specs.NameHash.{hash_of};
+ghost use Rattle.name_hash.specs.RowPlace.{row_key};
 ghost use Rattle.name_hash.specs.ScanOrder.{scan_cmp};
 
+use chains::reverse;
 use md5::{Digest, Md5};
-use mds_base::Name;
+use mds_base::{Name, RowKey};
+use std::alloc::{AllocError, Global};
 
 /// The hash of a name (`docs/DEFINITIONS.md`, "Name hash").
 pub fn hash(name: &Name) -> u64
@@ -23,6 +26,18 @@ pub fn hash(name: &Name) -> u64
     u64::from_be_bytes([
         digest[0], digest[1], digest[2], digest[3], digest[4], digest[5], digest[6], digest[7],
     ])
+}
+
+/// The key at which the row of a name stands in a partition of a directory.
+pub fn row_key(alloc: Global, dir: u64, part: u32, name: &Name) -> Result<RowKey, AllocError>
+    ensures { IfOk result (λ key. key ≡ row_key dir part name.now) }
+{
+    Ok(RowKey {
+        dir,
+        part,
+        rev: reverse(hash(name)),
+        name: name.copy(alloc)?,
+    })
 }
 
 /// The laws of the scan order (`docs/DEFINITIONS.md`, "Scan order").
