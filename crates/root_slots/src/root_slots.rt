@@ -183,6 +183,7 @@ impl RootSlots {
     pub fn close_slot<D: Disk>(&mut self, disk: &mut D) -> Result<(), RootFault>
         requires made { self.old.made ≡ true }
         requires ready { self.old.stopped ≡ false → IsReady self.old (D.seen disk.old) (D.sizes disk.old) (D.images disk.old) }
+        ensures untouched { self.old.spare_open ≡ false → disk.new ≡ disk.old }
         ensures emptied { OnOk result (self.new ≡ emptied self.old) }
         ensures ready { OnOk result (IsReady self.new (D.seen disk.new) (D.sizes disk.new) (D.images disk.new)) }
         ensures any_moment { self.old.stopped ≡ false → OnTold (D.seen disk.old 0) (λ file. LeavesOnly D.moment D.images_since disk.old disk.new (λ image. found_in (image 0) ≡ found_in file)) }

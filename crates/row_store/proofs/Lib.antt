@@ -1,0 +1,6 @@
+pub mod Calls
+pub mod Maps
+pub mod Told
+pub mod Keeping
+pub mod Appends
+pub mod Opens
