@@ -15,7 +15,7 @@ use Rattle.root_slots.specs.declared.content.Found.TheVariants.{New, InForce, Da
 use Rattle.root_slots.specs.declared.root_slots.RootSlots.{RootSlots}
 use Rattle.root_slots.specs.declared.root_slots.Step.TheVariants.{Begun}
 use Rattle.root_slots.specs.Root.{is_root}
-use Rattle.root_slots.specs.Slot.{HoldsRoot, FindsRoot, place_of, other_of, content_at, open_content, chosen, found_in, is_open, are_slots}
+use Rattle.root_slots.specs.Slot.{HoldsRoot, FindsRoot, place_of, other_of, content_at, open_content, chosen, found_in, is_open, are_slots, root_of, root_in, HasNoRoot}
 use Rattle.root_slots.specs.Slots.{answer_of, value_of, HasRootCause, IsRead, IsAsRead, IsForce, Stands, IsKept, IsReady}
 use Rattle.root_slots.proofs.Choice.{IsSound, IsChosen, is_chosen, whole_found, none_in, root_held, other_sound}
 use Rattle.root_slots.proofs.Windows.{content_closed, content_open, gate_shut}
@@ -216,3 +216,23 @@ pub cause_answer : (before now : ℕ) (found : Found) (both : Bool) → now ≡ 
 cause_answer before now New both same = record { later = omega (arith, same); device = λ is. absurd (never_device New both is); other = tt; kept = same }
 cause_answer before now (InForce slot root) both same = record { later = omega (arith, same); device = λ is. absurd (never_device (InForce slot root) both is); other = tt; kept = same }
 cause_answer before now (Damaged place damage) both same = record { later = omega (arith, same); device = λ is. absurd (never_device (Damaged place damage) both is); other = λ _. same; kept = tt }
+
+-- ---- what a reading says of a file, for the layers above
+
+root_found : (found : Found) (slots : RootSlots) (root : Root) → IsRead found (Ok (slots, Some root)) → root_of found ≡ Some root
+root_found New slots root is = cc
+root_found (InForce slot other) slots root is = sym is
+root_found (Damaged place damage) slots root is = absurd is
+
+none_found : (found : Found) (slots : RootSlots) → IsRead found (Ok (slots, None)) → found ≡ New
+none_found New slots is = refl
+none_found (InForce slot other) slots is = cc
+none_found (Damaged place damage) slots is = absurd is
+
+pub root_told : (told : Option (List ℕ)) (slots : RootSlots) (root : Root) → OnTold told (λ file. IsRead (found_in file) (Ok (slots, Some root))) → OnTold told (λ file. root_in file ≡ Some root)
+root_told None slots root is = tt
+root_told (Some file) slots root is = root_found (found_in file) slots root is
+
+pub none_told : (told : Option (List ℕ)) (slots : RootSlots) → OnTold told (λ file. IsRead (found_in file) (Ok (slots, None))) → OnTold told HasNoRoot
+none_told None slots is = tt
+none_told (Some file) slots is = none_found (found_in file) slots is

@@ -9,6 +9,7 @@ use Rattle.md5.specs.Md5.{md5}
 use Rattle.root_slots.specs.Root.{is_root}
 use Rattle.root_slots.specs.declared.TheConstants.{BEHIND_BYTES, COUNT_AT, FILE_BYTES, OPEN, SUM_BYTES, TABLES_AT, TABLES_MOST}
 use Rattle.root_slots.specs.declared.root.Root.{Root}
+use Rattle.root_slots.specs.declared.root_slots.SlotDamage.{SlotDamage}
 use Rattle.root_slots.specs.declared.root_slots.SlotDamage.TheVariants.{Spelling, Sum}
 use Rattle.root_slots.specs.declared.content.Slot.{Slot}
 use Rattle.root_slots.specs.declared.content.Slot.TheVariants.{First, Second}
@@ -141,3 +142,11 @@ root_of (Damaged place damage) = None
 
 abbrev pub root_in : List ℕ → Option Root
 root_in file = root_of (found_in file)
+
+-- no slot is open
+abbrev pub HasNoRoot : List ℕ → Type 0
+HasNoRoot file = found_in file ≡ New
+
+-- an open slot is damaged, from this place on
+abbrev pub HasBadRoot : ℕ → SlotDamage → List ℕ → Type 0
+HasBadRoot place damage file = found_in file ≡ Damaged place damage

@@ -1,9 +1,9 @@
 -- An append to the log in force.
 use Rattle.std.proofs.lemmas.Bool.{cases_eq}
-use Rattle.std.proofs.Common.{◌≡◌, ◌≢◌, ◌⊎◌, inl, inr, ⊎_elim, ◌∙◌, sym, ap, subst, refl, ℕ, suc, ◌+◌, ◌≤◌, ◌<◌, List, [], ◌∷◌, ◌++◌, length, Option, Some, None, true, arith}
+use Rattle.std.proofs.Common.{◌≡◌, ◌≢◌, ◌⊎◌, inl, inr, ⊎_elim, ◌∙◌, sym, ap, subst, refl, ℕ, suc, ◌+◌, ◌≤◌, ◌<◌, ◌^◌, List, [], ◌∷◌, ◌++◌, length, Option, Some, None, true, false, arith}
 use Rattle.std.specs.Prelude.{IsSome, unwrap_or, map, slice_index_or}
 use Rattle.gate_log.specs.Log.{HoldsLog, IsBeforeOrAfter}
-use Rattle.gate_log.specs.LogState.{LogState, IsLogOf, IsElsewhereOld}
+use Rattle.gate_log.specs.LogState.{LogState, IsLogOf, HasBodies, IsElsewhereOld}
 use Rattle.gate_log.specs.LogState as logs
 use Rattle.mds_base.specs.RowKeys.{RowMap}
 use Rattle.mds_out.specs.Disk.{Image, Contents, Lengths, IsElsewhereUnchanged, LeavesOnly, StaysTold}
@@ -17,9 +17,10 @@ use Rattle.root_slots.specs.Slots as slots
 use Rattle.root_slots.proofs.Crashes.{names_no_zero, state_apart, tables_apart}
 use Rattle.row_store.specs.declared.row_store.InForce.{InForce}
 use Rattle.row_store.specs.Store.{Kept, HoldsState, TellsAll, reading, StandsFor, with_body, IsCommitting}
-use Rattle.row_store.specs.Value.{HaveRows, IsOpenOn, AreReady, IsAsNamed}
+use Rattle.row_store.specs.declared.row_store.RowStore.{RowStore}
+use Rattle.row_store.specs.Value.{HaveRows, IsOpenOn, KeepsBy, Keeps, AreReady, IsAsNamed, IsRootReady, IsForceReady, IsReady}
 use Rattle.row_store.proofs.Keeping.{AreSameIn, files_of_tables, rows_on, stands_with, named_state, named_tables}
-use Rattle.row_store.proofs.Told.{still_known, told_is}
+use Rattle.row_store.proofs.Told.{still_known, told_is, to_told, some_on, some_back, told_same}
 use Rattle.sorted_table.specs.declared.table_row.TableRow.{TableRow}
 use Rattle.sorted_table.specs.Tables.{TableState, IsSomeTable}
 use Rattle.sorted_table.specs.Tables as tables
@@ -80,7 +81,7 @@ appended root log log' tables kept body seen seen' is file by elsewhere holds =
       in_force = ap root_in (first_file root is seen seen' elsewhere) ∙ by.in_force;
       state = subst (HoldsState kept.state) (sym (state_file root is seen seen' elsewhere)) by.state;
       log_file = there;
-      log = subst (λ (f : ℕ). IsLogOf log' (kept.bodies ++ body ∷ []) (seen' f)) there holds;
+      bodies = subst (λ (f : ℕ). IsLogOf log' (kept.bodies ++ body ∷ []) (seen' f)) there holds;
       files = by.files;
       hold = rows_on tables by.rows seen seen' by.hold (let P : List ℕ → Type 0 = λ files. AreSameIn files seen seen' in subst P (sym by.files) (table_files root is seen seen' elsewhere));
       base = by.base;
@@ -116,10 +117,10 @@ slots_on value seen seen' sizes sizes' images images' same stays left ready = re
   told = slots_told value (seen 0) (seen' 0) images images' same left ready.told;
 }
 
-pub tables_elsewhere : (open : List TableState) (file : ℕ) (seen seen' : Contents) (sizes sizes' : Lengths) → IsElsewhereUnchanged file seen seen' sizes sizes'
-    → ((k other : ℕ) → k < length (files_of_tables open) → slice_index_or (files_of_tables open) k other ≡ other → other ≢ file) → AreReady open seen sizes → AreReady open seen' sizes'
+pub tables_elsewhere : (opened : List TableState) (file : ℕ) (seen seen' : Contents) (sizes sizes' : Lengths) → IsElsewhereUnchanged file seen seen' sizes sizes'
+    → ((k other : ℕ) → k < length (files_of_tables opened) → slice_index_or (files_of_tables opened) k other ≡ other → other ≢ file) → AreReady opened seen sizes → AreReady opened seen' sizes'
 tables_elsewhere [] file seen seen' sizes sizes' elsewhere apart ready = tt
-tables_elsewhere (table ∷ open) file seen seen' sizes sizes' elsewhere apart ready =
+tables_elsewhere (table ∷ opened) file seen seen' sizes sizes' elsewhere apart ready =
     let differ : table.file ≢ file = apart 0 table.file (omega arith) refl in (
       record {
         size = ready.0.size;
@@ -128,10 +129,92 @@ tables_elsewhere (table ∷ open) file seen seen' sizes sizes' elsewhere apart r
         reaches = ready.0.reaches;
         told = subst (λ (told : Option (List ℕ)). OnTold told (IsSomeTable table)) (sym (elsewhere.bytes table.file differ)) ready.0.told;
       },
-      tables_elsewhere open file seen seen' sizes sizes' elsewhere (λ k other below at. apart (suc k) other (omega arith) at) ready.1,
+      tables_elsewhere opened file seen seen' sizes sizes' elsewhere (λ k other below at. apart (suc k) other (omega arith) at) ready.1,
     )
 
 -- the log as the disk reads, where each image has it so
 pub log_left : (log : LogState) (told : Option (List ℕ)) (images : Image → Type 0) (crashed : Image) → IsSome told → OnTold told (logs.IsKept log images) → images crashed → crashed log.file ≡ unwrap_or told []
-log_left log None images crashed some kept left = absurd some
+log_left log None images crashed some kept left = cc
 log_left log (Some bytes) images crashed some kept left = kept.durable crashed left
+
+-- ---- by the value of a store
+
+-- the store with another log in force
+abbrev pub with_log : RowStore → Root → LogState → RowStore
+with_log store root log = record store { force = Some (record { root = root; log = log }) }
+
+pub stays_all : (file : ℕ) (seen seen' : Contents) (sizes sizes' : Lengths) → IsElsewhereUnchanged file seen seen' sizes sizes' → StaysTold (seen file) (seen' file) → (other : ℕ) → StaysTold (seen other) (seen' other)
+stays_all file seen seen' sizes sizes' elsewhere stays other = ⊎_elim
+    (λ same. subst (λ (f : ℕ). StaysTold (seen f) (seen' f)) (sym same) stays)
+    (λ differ. told_same (seen other) (seen' other) (elsewhere.bytes other differ))
+    (cases_eq other file)
+
+module _ (store : RowStore) (root : Root) (log log' : LogState) (seen seen' : Contents) (sizes sizes' : Lengths) (images images' : Image → Type 0) (was : store.force ≡ Some (record { root = root; log = log })) (ready : IsReady store seen sizes images)
+    (elsewhere : IsElsewhereUnchanged log.file seen seen' sizes sizes') (stays : StaysTold (seen log.file) (seen' log.file)) (same_file : log'.file ≡ log.file) where
+  force_ready : (files_of_tables store.tables.items ≡ root.tables) × IsRootReady (record { root = root; log = log }) seen sizes images
+  force_ready = subst (λ (force : Option InForce). IsForceReady force store.tables.items seen sizes images) was ready.force
+
+  is : is_root root ≡ true
+  is = force_ready.1.root
+
+  log_file : log.file ≡ root.log_file
+  log_file = force_ready.1.log_file
+
+  apart : (file : ℕ) → file ≢ root.log_file → reading seen' file ≡ reading seen file
+  apart file differ = ap (λ (told : Option (List ℕ)). unwrap_or told []) (elsewhere.bytes file (λ same. differ (same ∙ log_file)))
+
+  open_on : (kept : Kept) (rows : RowMap) → Keeps store (Some kept) rows (reading seen) → IsOpenOn root log store.tables.items kept (reading seen)
+  open_on kept rows keeps = subst (λ (force : Option InForce). KeepsBy force store.tables.items (Some kept) (reading seen)) was keeps.by
+
+  steady : TellsAll seen → (crashed : Image) → images crashed → IsUnder root (reading seen) crashed
+  steady tells crashed left = subst (λ (force : Option InForce). IsAsNamed force (reading seen) crashed) was (ready.steady tells crashed left)
+
+  -- a body more is kept
+  pub keeps_appended : (body : List ℕ) → ((bodies : List (List ℕ)) → HasBodies log seen bodies → HasBodies log' seen' (bodies ++ body ∷ [])) → TellsAll seen → (kept : Kept) (rows : RowMap)
+      → Keeps store (Some kept) rows (reading seen) → Keeps (with_log store root log') (Some (with_body kept body)) rows (reading seen')
+  keeps_appended body gives tells kept rows keeps =
+      let by = open_on kept rows keeps in
+      let here : IsLogOf log kept.bodies (reading seen log.file) = subst (λ (f : ℕ). IsLogOf log kept.bodies (reading seen f)) (sym log_file) by.bodies in
+      let some : IsSome (seen' log'.file) = subst (λ (f : ℕ). IsSome (seen' f)) (sym same_file) (some_on (seen log.file) (seen' log.file) stays (tells log.file)) in
+      record {
+        by = appended root log log' store.tables.items kept body (reading seen) (reading seen') is same_file by apart
+            (told_is (seen' log'.file) (IsLogOf log' (kept.bodies ++ body ∷ [])) some (gives kept.bodies (to_told (seen log.file) (IsLogOf log kept.bodies) here)));
+        rows_are = keeps.rows_are;
+      }
+
+  -- the disk is ready for the store
+  pub ready_appended : ((crashed : Image) → images' crashed → IsElsewhereOld log.file images crashed) → log'.stopped ≡ false → log'.length < 2 ^ 63 → logs.IsReady log' seen' sizes' images' → IsReady (with_log store root log') seen' sizes' images'
+  ready_appended left running short log_ready = record {
+    frames = ready.frames;
+    slots_run = ready.slots_run;
+    slots = slots_on store.slots seen seen' sizes sizes' images images' (elsewhere.bytes 0 zero_apart) (elsewhere.lengths 0 zero_apart)
+        (λ crashed now. ((left crashed now).before, (left crashed now).was, (left crashed now).others 0 zero_apart)) ready.slots;
+    force = (force_ready.0, record { root = is; log_file = same_file ∙ log_file; log = record { running = running; short = short; ready = log_ready } });
+    tables = tables_elsewhere store.tables.items log.file seen seen' sizes sizes' elsewhere tables_differ ready.tables;
+    marked = ready.marked;
+    steady = λ tells crashed now. steady_after root (reading seen) (reading seen') crashed images is apart (steady (λ file. some_back (seen file) (seen' file) (stays_all log.file seen seen' sizes sizes' elsewhere stays file) (tells file)))
+        (subst (λ (f : ℕ). IsElsewhereOld f images crashed) log_file (left crashed now)) (log_now tells crashed now);
+  }
+    where
+      zero_apart : 0 ≢ log.file
+      zero_apart same = names_no_zero root is root.log_file (1, omega arith, refl) (sym (same ∙ log_file))
+
+      tables_differ : (k other : ℕ) → k < length (files_of_tables store.tables.items) → slice_index_or (files_of_tables store.tables.items) k other ≡ other → other ≢ log.file
+      tables_differ = let P : List ℕ → Type 0 = λ files. (k other : ℕ) → k < length files → slice_index_or files k other ≡ other → other ≢ log.file in
+          subst P (sym force_ready.0) (λ k other below at same. tables_apart root is k other below at (same ∙ log_file))
+
+      log_now : TellsAll seen' → (crashed : Image) → images' crashed → crashed root.log_file ≡ reading seen' root.log_file
+      log_now tells crashed now = subst (λ (f : ℕ). crashed f ≡ reading seen' f) (same_file ∙ log_file) (log_left log' (seen' log'.file) images' crashed (tells log'.file) log_ready.told now)
+
+  -- each moment of it
+  pub moments_appended : {D : Type 0} (moment : D → ℕ) (since : D → ℕ → Image → Type 0) (old new : D) (body : List ℕ) → TellsAll seen → (kept : Kept) (rows : RowMap) → Keeps store (Some kept) rows (reading seen)
+      → LeavesOnly moment since old new (IsElsewhereOld log.file images)
+      → ((bodies : List (List ℕ)) → HasBodies log seen bodies → OnTold (seen log.file) (λ _. LeavesOnly moment since old new (λ image. IsBeforeOrAfter bodies body (image log.file))))
+      → LeavesOnly moment since old new (IsCommitting kept body)
+  moments_appended moment since old new body tells kept rows keeps others bodies =
+      let by = open_on kept rows keeps in
+      let here : IsLogOf log kept.bodies (reading seen log.file) = subst (λ (f : ℕ). IsLogOf log kept.bodies (reading seen f)) (sym log_file) by.bodies in
+      let told = bodies kept.bodies (to_told (seen log.file) (IsLogOf log kept.bodies) here) in
+      leaves_both moment since old new (IsElsewhereOld log.file images) (λ image. IsBeforeOrAfter kept.bodies body (image log.file)) (IsCommitting kept body) others
+      (told_is (seen log.file) (λ _. LeavesOnly moment since old new (λ image. IsBeforeOrAfter kept.bodies body (image log.file))) (tells log.file) told)
+      (λ image first second. committing (record { root = root; log = log }) store.tables.items kept body (reading seen) image images is log_file by (steady tells) first second)

@@ -6,7 +6,7 @@ use Rattle.mds_base.specs.RowKeys.{RowMap}
 use Rattle.mds_out.specs.Disk.{Image}
 use Rattle.root_slots.specs.Crash.{IsUnder}
 use Rattle.root_slots.specs.declared.root.Root.{Root}
-use Rattle.root_slots.specs.Slot.{found_in, root_in}
+use Rattle.root_slots.specs.Slot.{HasNoRoot, root_in}
 use Rattle.row_store.specs.declared.row_store.InForce.{InForce}
 use Rattle.row_store.specs.declared.row_store.RowStore.{RowStore}
 use Rattle.row_store.specs.Store.{Kept, HoldsState, HoldTables, StandsFor}
@@ -74,12 +74,12 @@ stands_with force tables kept bodies image crashed by in_force state same log = 
 })
 
 stands_by : (force : Option InForce) (tables : List TableState) (kept : Option Kept) (image crashed : Image) → KeepsBy force tables kept image → IsAsNamed force image crashed → StandsFor kept crashed
-stands_by None tables None image crashed by named = ap found_in named ∙ by.0
+stands_by None tables None image crashed by named = subst HasNoRoot (sym named) by.0
 stands_by None tables (Some kept) image crashed by named = absurd by
 stands_by (Some force) tables None image crashed by named = absurd by
 stands_by (Some force) tables (Some kept) image crashed by named =
     stands_with force tables kept kept.bodies image crashed by named.in_force (named_state force.root image crashed named) (named_tables force.root image crashed named)
-    (subst (HoldsLog kept.bodies) (sym (named_log force.root image crashed named)) by.log.holds)
+    (subst (HoldsLog kept.bodies) (sym (named_log force.root image crashed named)) by.bodies.holds)
 
 pub stands : KeptStands
 stands store kept rows image crashed keeps named = stands_by store.force store.tables.items kept image crashed keeps.by named

@@ -1,4 +1,4 @@
-pub mod Calls
+pub mod Joined
 pub mod Maps
 pub mod Told
 pub mod Keeping

@@ -1,6 +1,9 @@
 -- What maps of rows have at a key: of changes, of tables over one another, of what was last said.
-use Rattle.std.proofs.Common.{◌≡◌, ◌∙◌, sym, ap, refl, List, [], ◌∷◌, Bool, true, false, cond, Option, Some, None}
-use Rattle.std.specs.Prelude.{if◌then◌else◌}
+use Rattle.std.proofs.Common.{◌≡◌, ◌∙◌, sym, ap, subst, refl, List, [], ◌∷◌, Bool, true, false, cond, Option, Some, None}
+use Rattle.std.specs.Prelude.{if◌then◌else◌, IfSome}
+use Rattle.std.specs.Ordering.{is_eq}
+use Rattle.std.specs.declared.cmp.Ordering.{Ordering}
+use Rattle.std.specs.declared.cmp.Ordering.TheVariants.{Less, Equal, Greater}
 use Rattle.std.specs.BTreeMap.{is_at}
 use Rattle.std.specs.Cmp.{eq_by_cmp_equiv}
 use Rattle.std.specs.FinMap as map
@@ -8,14 +11,14 @@ use Rattle.std.specs.Map.{lookup}
 use Rattle.mds_base.specs.declared.attr.Attr.{Attr}
 use Rattle.mds_base.specs.declared.row_key.RowKey.{RowKey}
 use Rattle.mds_base.specs.RowKeys.{row_key_cmp, RowMap}
-use Rattle.mds_base.proofs.RowMaps.{row_keys_total, same_rows}
+use Rattle.mds_base.proofs.RowMaps.{row_keys_total, exact_row_keys, same_rows}
 use Rattle.mds_out.specs.Disk.{Image}
 use Rattle.row_store.specs.Rows.{with_row, laid_over, rows_under, rows_of}
 use Rattle.row_store.specs.Value.{HaveRows}
 use Rattle.sorted_table.specs.declared.table_row.Held.{Held}
 use Rattle.sorted_table.specs.declared.table_row.Held.TheVariants.{Absent, Tomb, Row}
 use Rattle.sorted_table.specs.declared.table_row.TableRow.{TableRow}
-use Rattle.sorted_table.specs.TableRows.{held_of, held_in}
+use Rattle.sorted_table.specs.TableRows.{IsMarked, held_of, held_in}
 use Rattle.sorted_table.specs.Tables.{TableState, HasRows}
 
 pub get-with_row : (rows : RowMap) (key : RowKey) (attr : Option Attr) (q : RowKey) → map.get (with_row rows key attr) q ≡ cond (is_at (row_key_cmp q) key) attr (map.get rows q)
@@ -61,7 +64,7 @@ under_said table older (said ∷ rest) image key held found have says is =
 
 -- no table
 pub under_none : (rows : List (List TableRow)) (image : Image) (key : RowKey) → HaveRows [] rows image → None ≡ map.get (rows_under rows) key
-under_none [] image key have = sym (map.get-empty key)
+under_none [] image key have = refl
 under_none (said ∷ rest) image key have = absurd have
 
 -- ---- what was last said of each key
@@ -98,3 +101,29 @@ one_said base entries others key attr said = same_rows (laid_over base (rows_of 
     ∙ ap (λ here. cond here attr (said_or (lookup (is_at (row_key_cmp q)) entries) (map.get base q))) (tied key q)
     ∙ ap (cond (is_at (row_key_cmp q) key) attr) (sym (get-said base entries q))
     ∙ sym (get-with_row (laid_over base (rows_of entries)) key attr q))
+
+-- a key more, of which something with a spelling is said
+pub said_marked : (entries others : List (RowKey × Option Attr)) (key : RowKey) (attr : Option Attr) → IsMarked attr
+    → ((q : RowKey) → lookup (is_at (row_key_cmp q)) others ≡ cond (is_at (row_key_cmp key) q) (Some attr) (lookup (is_at (row_key_cmp q)) entries))
+    → ((q : RowKey) → IfSome (lookup (is_at (row_key_cmp q)) entries) IsMarked) → (q : RowKey) → IfSome (lookup (is_at (row_key_cmp q)) others) IsMarked
+said_marked entries others key attr marked said old q = subst (λ (found : Option (Option Attr)). IfSome found IsMarked) (sym (said q)) (pick (is_at (row_key_cmp key) q))
+  where
+    pick : (here : Bool) → IfSome (cond here (Some attr) (lookup (is_at (row_key_cmp q)) entries)) IsMarked
+    pick true = marked
+    pick false = old q
+
+is_equal : (r : Ordering) → is_eq r ≡ true → r ≡ Equal
+is_equal Less tie = cc
+is_equal Equal tie = refl
+is_equal Greater tie = cc
+
+-- what was said before is said again
+pub taken_back : (entries mids others : List (RowKey × Option Attr)) (key : RowKey) (attr : Option Attr) (before : Option (Option Attr)) → before ≡ lookup (is_at (row_key_cmp key)) entries
+    → ((q : RowKey) → lookup (is_at (row_key_cmp q)) mids ≡ cond (is_at (row_key_cmp key) q) (Some attr) (lookup (is_at (row_key_cmp q)) entries))
+    → ((q : RowKey) → lookup (is_at (row_key_cmp q)) others ≡ cond (is_at (row_key_cmp key) q) before (lookup (is_at (row_key_cmp q)) mids))
+    → (q : RowKey) → lookup (is_at (row_key_cmp q)) others ≡ lookup (is_at (row_key_cmp q)) entries
+taken_back entries mids others key attr before is mid back q = back q ∙ ap (cond (is_at (row_key_cmp key) q) before) (mid q) ∙ at (is_at (row_key_cmp key) q) refl
+  where
+    at : (here : Bool) → is_at (row_key_cmp key) q ≡ here → cond here before (cond here (Some attr) (lookup (is_at (row_key_cmp q)) entries)) ≡ lookup (is_at (row_key_cmp q)) entries
+    at true tie = is ∙ ap (λ (k : RowKey). lookup (is_at (row_key_cmp k)) entries) (exact_row_keys key q (is_equal (row_key_cmp key q) tie))
+    at false apart = refl

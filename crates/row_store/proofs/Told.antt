@@ -24,23 +24,23 @@ still_known (Some m) size' n stays known = stays ∙ known
 
 -- what is told of a file is what it reads as
 pub when_told : (told : Option (List ℕ)) (P : List ℕ → Type 0) (Q : Type 0) → IsSome told → P (unwrap_or told []) → (OnTold told P → OnTold told (λ _. Q)) → Q
-when_told None P Q some is gives = absurd some
+when_told None P Q some is gives = cc
 when_told (Some bytes) P Q some is gives = gives is
 
 pub told_is : (told : Option (List ℕ)) (P : List ℕ → Type 0) → IsSome told → OnTold told P → P (unwrap_or told [])
-told_is None P some is = absurd some
+told_is None P some is = cc
 told_is (Some bytes) P some is = is
 
 -- ---- look-ups
 
-pub table_answer : {T U : Type 0} (told : Option (List ℕ)) (tells : Type 0) (file : ℕ) (fault : TableFault) → (tells → IsSome told) → answers.IsLookAnswer {T = T} told (Err fault) → IsLookAnswer {T = U} tells (Err (table_fault_of file fault))
-table_answer told tells file table.Device some answer = tt
-table_answer told tells file (table.Damaged place damage) some answer = λ all. none told (some all) answer
+pub table_answer : (T U : Type 0) (told : Option (List ℕ)) (tells : Type 0) (file : ℕ) (fault : TableFault) → (tells → IsSome told) → answers.IsLookAnswer {T = T} told (Err fault) → IsLookAnswer {T = U} tells (Err (table_fault_of file fault))
+table_answer T U told tells file table.Device some answer = tt
+table_answer T U told tells file (table.Damaged place damage) some answer = λ all. none told (some all) answer
   where
     none : (told : Option (List ℕ)) → IsSome told → OnTold told (λ _. ⊥) → ⊥
-    none None some is = some
+    none None some is = cc
     none (Some bytes) some is = is
-table_answer told tells file table.OutOfMemory some answer = answer
+table_answer T U told tells file table.OutOfMemory some answer = answer
 
 pub answer_on : {T : Type 0} (tells tells' : Type 0) (result : Result T StoreFault) → (tells → tells') → IsLookAnswer tells' result → IsLookAnswer tells result
 answer_on tells tells' (Ok x) more answer = tt
@@ -50,15 +50,15 @@ answer_on tells tells' (Err (Damaged file place damage)) more answer = λ all. a
 answer_on tells tells' (Err Room) more answer = answer
 answer_on tells tells' (Err OutOfMemory) more answer = answer
 
-pub answer_err : {T U : Type 0} (tells : Type 0) (fault : StoreFault) → IsLookAnswer {T = T} tells (Err fault) → IsLookAnswer {T = U} tells (Err fault)
-answer_err tells Device answer = answer
-answer_err tells Stopped answer = answer
-answer_err tells (Damaged file place damage) answer = answer
-answer_err tells Room answer = answer
-answer_err tells OutOfMemory answer = answer
+pub answer_err : (T U : Type 0) (tells : Type 0) (fault : StoreFault) → IsLookAnswer {T = T} tells (Err fault) → IsLookAnswer {T = U} tells (Err fault)
+answer_err T U tells Device answer = answer
+answer_err T U tells Stopped answer = answer
+answer_err T U tells (Damaged file place damage) answer = answer
+answer_err T U tells Room answer = answer
+answer_err T U tells OutOfMemory answer = answer
 
 -- tables stay ready
-ready_on : (table : TableState) (seen seen' : Contents) (sizes sizes' : Lengths) → IsUnchanged seen seen' sizes sizes' → IsReady table seen sizes → IsReady table seen' sizes'
+pub ready_on : (table : TableState) (seen seen' : Contents) (sizes sizes' : Lengths) → IsUnchanged seen seen' sizes sizes' → IsReady table seen sizes → IsReady table seen' sizes'
 ready_on table seen seen' sizes sizes' same ready = record {
   size = ready.size;
   known = still_known (sizes table.file) (sizes' table.file) ready.size (same.lengths table.file) ready.known;
@@ -78,14 +78,14 @@ to_told None P is = tt
 to_told (Some bytes) P is = is
 
 pub some_on : (told told' : Option (List ℕ)) → StaysTold told told' → IsSome told → IsSome told'
-some_on None told' stays some = absurd some
+some_on None told' stays some = cc
 some_on (Some bytes) None stays some = absurd stays
-some_on (Some bytes) (Some now) stays some = tt
+some_on (Some bytes) (Some now) stays some = refl
 
 pub some_back : (told told' : Option (List ℕ)) → StaysTold told told' → IsSome told' → IsSome told
-some_back None None stays some = absurd some
+some_back None None stays some = cc
 some_back None (Some now) stays some = absurd stays
-some_back (Some bytes) told' stays some = tt
+some_back (Some bytes) told' stays some = refl
 
 pub told_same : (told told' : Option (List ℕ)) → told' ≡ told → StaysTold told told'
 told_same told told' same = subst (λ (now : Option (List ℕ)). StaysTold told now) (sym same) (here told)

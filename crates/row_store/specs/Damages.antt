@@ -9,9 +9,8 @@ use Rattle.mds_base.specs.declared.store_fault.StoreFault.TheVariants as faults
 use Rattle.mds_out.specs.Disk.{Image}
 use Rattle.md5.specs.Md5.{md5}
 use Rattle.root_slots.specs.declared.root.Root.{Root}
-use Rattle.root_slots.specs.declared.content.Found.TheVariants as found
 use Rattle.root_slots.specs.declared.root_slots.SlotDamage.TheVariants as slot
-use Rattle.root_slots.specs.Slot.{found_in, root_in}
+use Rattle.root_slots.specs.Slot.{HasBadRoot, root_in}
 use Rattle.row_store.specs.declared.TheConstants.{SUM_BYTES}
 use Rattle.row_store.specs.Store.{HoldsState}
 use Rattle.sorted_table.specs.declared.fault.TableDamage.TheVariants as table
@@ -19,8 +18,8 @@ use Rattle.sorted_table.specs.declared.table_row.TableRow.{TableRow}
 use Rattle.sorted_table.specs.TableFiles.{HoldsTable, IsDamaged}
 
 abbrev pub IsRootBad : ℕ → Damage → List ℕ → Type 0
-IsRootBad place Spelling file = found_in file ≡ found.Damaged place slot.Spelling
-IsRootBad place (Sum kept other) file = found_in file ≡ found.Damaged place (slot.Sum kept other)
+IsRootBad place Spelling file = HasBadRoot place slot.Spelling file
+IsRootBad place (Sum kept other) file = HasBadRoot place (slot.Sum kept other) file
 IsRootBad place (Head kept wanted) file = ⊥
 
 -- ---- the state

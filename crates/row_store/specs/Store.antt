@@ -6,8 +6,7 @@ use Rattle.mds_base.specs.RowKeys.{RowMap}
 use Rattle.mds_out.specs.Disk.{Image, Contents}
 use Rattle.md5.specs.Md5.{md5}
 use Rattle.root_slots.specs.declared.root.Root.{Root}
-use Rattle.root_slots.specs.declared.content.Found.TheVariants.{New}
-use Rattle.root_slots.specs.Slot.{found_in, root_in}
+use Rattle.root_slots.specs.Slot.{HasNoRoot, root_in}
 use Rattle.row_store.specs.Rows.{rows_under}
 use Rattle.sorted_table.specs.declared.table_row.TableRow.{TableRow}
 use Rattle.sorted_table.specs.TableFiles.{HoldsTable}
@@ -53,7 +52,7 @@ pub record HasUnder (root : Root) (kept : Kept) (image : Image) : Type 0 where
 
 -- what the disk stands for: of a new one, no store
 abbrev pub StandsFor : Option Kept → Image → Type 0
-StandsFor None image = found_in (image 0) ≡ New
+StandsFor None image = HasNoRoot (image 0)
 StandsFor (Some kept) image = (root : Root) × HasUnder root kept image
 
 -- ---- at each moment of a call

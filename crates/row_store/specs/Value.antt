@@ -9,11 +9,10 @@ use Rattle.std.specs.BTreeMap as tree
 use Rattle.mds_out.specs.Disk.{Image, Contents, Lengths}
 use Rattle.mds_out.specs.Known.{OnTold}
 use Rattle.root_slots.specs.Crash.{IsUnder}
-use Rattle.root_slots.specs.declared.content.Found.TheVariants.{New}
 use Rattle.root_slots.specs.declared.root.Root.{Root}
 use Rattle.root_slots.specs.declared.root_slots.RootSlots.{RootSlots}
 use Rattle.root_slots.specs.Root.{is_root}
-use Rattle.root_slots.specs.Slot.{found_in, root_in}
+use Rattle.root_slots.specs.Slot.{HasNoRoot, root_in}
 use Rattle.root_slots.specs.Slots.{IsReady as AreSlotsReady}
 use Rattle.row_store.specs.declared.row_store.InForce.{InForce}
 use Rattle.row_store.specs.declared.row_store.RowStore.{RowStore}
@@ -39,14 +38,14 @@ pub record IsOpenOn (root : Root) (log : LogState) (tables : List TableState) (k
   pub in_force : root_in (image 0) ≡ Some root
   pub state : HoldsState kept.state (image root.state)
   pub log_file : log.file ≡ root.log_file
-  pub log : IsLogOf log kept.bodies (image root.log_file)
+  pub bodies : IsLogOf log kept.bodies (image root.log_file)
   pub files : map (λ table. table.file) tables ≡ root.tables
   pub hold : HaveRows tables rows image
   pub base : kept.base ≡ rows_under rows
 
 -- what is kept, by what is in force; of a new disk nothing
 abbrev pub KeepsBy : Option InForce → List TableState → Option Kept → Image → Type 0
-KeepsBy None tables None image = (found_in (image 0) ≡ New) × (tables ≡ [])
+KeepsBy None tables None image = HasNoRoot (image 0) × (tables ≡ [])
 KeepsBy None tables (Some kept) image = ⊥
 KeepsBy (Some force) tables None image = ⊥
 KeepsBy (Some force) tables (Some kept) image = IsOpenOn force.root force.log tables kept image

@@ -1,17 +1,17 @@
 -- Runs of calls of a store's disk, and refusals of its parts as its own.
 use Rattle.std.proofs.Common.{◌≡◌, ◌≢◌, ◌∙◌, sym, refl, ap, ℕ, ◌≤◌, Option, Some, None, Result, Ok, Err, arith}
 use Rattle.std.specs.Prelude.{IfErr, IsErrOf}
-use Rattle.gate_log.specs.Disks.{HasLogCause}
+use Rattle.gate_log.specs.Disks.{HasLogCause, IsLogChanging}
 use Rattle.gate_log.specs.declared.gate_log.LogFault.{LogFault}
 use Rattle.gate_log.specs.declared.gate_log.LogFault.TheVariants as log
 use Rattle.mds_base.specs.declared.store_fault.StoreFault.{StoreFault}
 use Rattle.mds_base.specs.declared.store_fault.StoreFault.TheVariants.{Device, Stopped, Damaged, Room, OutOfMemory}
 use Rattle.mds_out.specs.declared.disk.DiskFault.{DiskFault}
 use Rattle.mds_out.specs.declared.disk.DiskFault.TheVariants as disk
-use Rattle.mds_out.specs.Disk.{Image, Contents, Lengths, IsUnchanged, LeavesOnly, HasDiskCause}
+use Rattle.mds_out.specs.Disk.{Image, Contents, Lengths, IsUnchanged, LeavesOnly, Elapses, IsReading, IsChanging, HasDiskCause}
 use Rattle.mds_out.specs.Fault.{Rose}
 use Rattle.mds_out.specs.Known.{OnTold}
-use Rattle.mds_out.proofs.Moments.{both}
+use Rattle.mds_out.proofs.Moments.{started, goes_on, both}
 use Rattle.root_slots.specs.Slots.{HasRootCause}
 use Rattle.root_slots.specs.declared.root_slots.RootFault.{RootFault}
 use Rattle.root_slots.specs.declared.root_slots.RootFault.TheVariants as root
@@ -20,6 +20,9 @@ use Rattle.sorted_table.specs.Answers.{HasTableCause}
 use Rattle.sorted_table.specs.declared.fault.TableFault.{TableFault}
 use Rattle.sorted_table.specs.declared.fault.TableFault.TheVariants as table
 
+abbrev refusal : (T : Type 0) → StoreFault → Result T StoreFault
+refusal T fault = Err fault
+
 -- ---- causes
 
 pub cause_ok : {T : Type 0} (before now : ℕ) (done : T) → now ≡ before → HasStoreCause before now (Ok done)
@@ -27,10 +30,10 @@ cause_ok before now done same = record { later = omega (arith, same); device = �
 
 -- a refusal that has risen where it is the device's, and else has not
 cause_err : {T : Type 0} (before now : ℕ) (fault : StoreFault) → before ≤ now → (fault ≡ Device → Rose before now) → (fault ≢ Device → now ≡ before) → HasStoreCause {T = T} before now (Err fault)
-cause_err before now fault later device other = record { later = later; device = λ is. device (same_fault fault is); other = other; kept = tt }
+cause_err {T = T} before now fault later device other = record { later = later; device = λ is. device (same_fault T fault is); other = other; kept = tt }
   where
-    same_fault : {T : Type 0} (fault : StoreFault) → Err {T = T} fault ≡ Err Device → fault ≡ Device
-    same_fault fault is = cc
+    same_fault : (T : Type 0) (fault : StoreFault) → refusal T fault ≡ refusal T Device → fault ≡ Device
+    same_fault T fault is = cc
 
 pub cause_disk : {T U : Type 0} (before now : ℕ) (fault : DiskFault) → HasDiskCause {T = T} before now (Err fault) → HasStoreCause {T = U} before now (Err (disk_fault_of fault))
 cause_disk before now disk.Device cause = cause_err before now Device cause.later (λ _. cause.device refl) (λ no. absurd (no refl))
@@ -115,17 +118,17 @@ reads_on {seen = seen} {sizes = sizes} {images = images} {moment = moment} {sinc
 -- a refusal that is passed on as the answer of another call
 pub reads_refused : {D T U : Type 0} {seen : D → Contents} {sizes : D → Lengths} {images : D → Image → Type 0} {moment : D → ℕ} {since : D → ℕ → Image → Type 0} {faults : D → ℕ} {lasts fails : D → D → Type 0}
     {a b : D} {fault : StoreFault} → IsStoreReading {T = T} seen sizes images moment since faults lasts fails a b (Err fault) → IsStoreReading {T = U} seen sizes images moment since faults lasts fails a b (Err fault)
-reads_refused {faults = faults} {a = a} {b = b} {fault = fault} is = record {
+reads_refused {T = T} {U = U} {faults = faults} {a = a} {b = b} {fault = fault} is = record {
   unchanged = is.unchanged;
   crash = is.crash;
   any_moment = is.any_moment;
-  cause = record { later = is.cause.later; device = λ other. is.cause.device (same_refusal fault other); other = is.cause.other; kept = tt };
+  cause = record { later = is.cause.later; device = λ other. is.cause.device (same_refusal T U fault other); other = is.cause.other; kept = tt };
   lasts = is.lasts;
-  failed = λ other. is.failed (same_refusal fault other);
+  failed = λ other. is.failed (same_refusal T U fault other);
 }
   where
-    same_refusal : {T U : Type 0} (fault : StoreFault) → Err {T = U} fault ≡ Err Device → Err {T = T} fault ≡ Err Device
-    same_refusal fault is = let same : fault ≡ Device = cc in ap Err same
+    same_refusal : (T U : Type 0) (fault : StoreFault) → refusal U fault ≡ refusal U Device → refusal T fault ≡ refusal T Device
+    same_refusal T U fault is = let same : fault ≡ Device = cc in ap (refusal T) same
 
 -- what a call that was done answers is a matter of its caller
 pub reads_as : {D T U : Type 0} {seen : D → Contents} {sizes : D → Lengths} {images : D → Image → Type 0} {moment : D → ℕ} {since : D → ℕ → Image → Type 0} {faults : D → ℕ} {lasts fails : D → D → Type 0}
@@ -142,3 +145,34 @@ reads_as {faults = faults} {a = a} {b = b} is result not_device = record {
     plain : {T : Type 0} (result : Result T StoreFault) → (IsErrOf result Device → ⊥) → HasStoreCause (faults a) (faults b) result
     plain (Ok x) none = cause_ok (faults a) (faults b) x is.cause.kept
     plain (Err fault) none = record { later = is.cause.later; device = λ device. absurd (none device); other = λ _. is.cause.kept; kept = tt }
+
+-- ---- what one call leaves at each moment
+
+pub one_moment : {D : Type 0} (moment : D → ℕ) (since : D → ℕ → Image → Type 0) (images : D → Image → Type 0) (a b : D) → ((image : Image) → since a (moment a) image → images a image)
+    → Elapses (moment a) (moment b) (since a) (since b) (images b) → ((image : Image) → images b image → images a image) → LeavesOnly moment since a b (images a)
+one_moment moment since images a b only_now time crash = goes_on moment since a a b (images a) (images b) (started moment since a (images a) only_now) time crash
+
+-- what is left after it is left at its last moment
+pub last_moment : {D : Type 0} (moment : D → ℕ) (since : D → ℕ → Image → Type 0) (images : D → Image → Type 0) (a b : D) → ((t : ℕ) (image : Image) → t ≤ moment b → images b image → since b t image)
+    → LeavesOnly moment since a b (images a) → (image : Image) → images b image → images a image
+last_moment moment since images a b counts_now leaves image now = leaves.each image (counts_now (moment a) image leaves.later now)
+
+-- no call at all
+pub reads_none : {D T : Type 0} {seen : D → Contents} {sizes : D → Lengths} {images : D → Image → Type 0} {moment : D → ℕ} {since : D → ℕ → Image → Type 0} {faults : D → ℕ} {lasts fails : D → D → Type 0} (disk : D) (result : Result T StoreFault)
+    → ((image : Image) → since disk (moment disk) image → images disk image) → lasts disk disk → (IsErrOf result Device → ⊥) → IsStoreReading seen sizes images moment since faults lasts fails disk disk result
+reads_none {seen = seen} {sizes = sizes} {images = images} {moment = moment} {since = since} {faults = faults} disk result only_now lasts_here not_device = record {
+  unchanged = record { bytes = λ file. refl; lengths = λ file. known (sizes disk file) };
+  crash = λ image is. is;
+  any_moment = started moment since disk (images disk) only_now;
+  cause = plain result not_device;
+  lasts = lasts_here;
+  failed = λ device. absurd (not_device device);
+}
+  where
+    known : (size : Option ℕ) → OnTold size (λ n. size ≡ Some n)
+    known None = tt
+    known (Some n) = refl
+
+    plain : {T : Type 0} (result : Result T StoreFault) → (IsErrOf result Device → ⊥) → HasStoreCause (faults disk) (faults disk) result
+    plain (Ok x) none = cause_ok (faults disk) (faults disk) x refl
+    plain (Err fault) none = record { later = omega arith; device = λ device. absurd (none device); other = λ _. refl; kept = tt }
