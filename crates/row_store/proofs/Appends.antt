@@ -1,12 +1,14 @@
 -- An append to the log in force.
 use Rattle.std.proofs.lemmas.Bool.{cases_eq}
-use Rattle.std.proofs.Common.{◌≡◌, ◌≢◌, ◌⊎◌, inl, inr, ⊎_elim, ◌∙◌, sym, ap, subst, refl, ℕ, suc, ◌+◌, ◌≤◌, ◌<◌, ◌^◌, List, [], ◌∷◌, ◌++◌, length, Option, Some, None, true, false, arith}
+use Rattle.std.proofs.Common.{◌≡◌, ◌≢◌, ◌⊎◌, inl, inr, ⊎_elim, ◌∙◌, sym, ap, subst, refl, ℕ, suc, ◌+◌, ◌≤◌, ◌<◌, ◌^◌, List, [], ◌∷◌, ◌++◌, length, Option, Some, None, Bool, true, false, arith}
 use Rattle.std.specs.Prelude.{IsSome, unwrap_or, map, slice_index_or}
 use Rattle.gate_log.specs.Log.{HoldsLog, IsBeforeOrAfter}
 use Rattle.gate_log.specs.LogState.{LogState, IsLogOf, HasBodies, IsElsewhereOld}
 use Rattle.gate_log.specs.LogState as logs
 use Rattle.mds_base.specs.RowKeys.{RowMap}
-use Rattle.mds_out.specs.Disk.{Image, Contents, Lengths, IsElsewhereUnchanged, LeavesOnly, StaysTold}
+use Rattle.mds_out.proofs.Moments.{started}
+use Rattle.frame_pool.specs.Frames.{Frames, free_frames}
+use Rattle.mds_out.specs.Disk.{Image, Contents, Lengths, IsUnchanged, IsElsewhereUnchanged, LeavesOnly, StaysTold}
 use Rattle.mds_out.specs.Known.{OnTold}
 use Rattle.root_slots.specs.Crash.{IsUnder}
 use Rattle.root_slots.specs.declared.root.Root.{Root}
@@ -19,8 +21,8 @@ use Rattle.row_store.specs.declared.row_store.InForce.{InForce}
 use Rattle.row_store.specs.Store.{Kept, HoldsState, TellsAll, reading, StandsFor, with_body, IsCommitting}
 use Rattle.row_store.specs.declared.row_store.RowStore.{RowStore}
 use Rattle.row_store.specs.Value.{HaveRows, IsOpenOn, KeepsBy, Keeps, AreReady, IsAsNamed, IsRootReady, IsForceReady, IsReady}
-use Rattle.row_store.proofs.Keeping.{AreSameIn, files_of_tables, rows_on, stands_with, named_state, named_tables}
-use Rattle.row_store.proofs.Told.{still_known, told_is, to_told, some_on, some_back, told_same}
+use Rattle.row_store.proofs.Keeping.{AreSameIn, files_of_tables, rows_on, stands, stands_with, named_state, named_tables}
+use Rattle.row_store.proofs.Told.{same_seen, tables_on, still_known, told_is, to_told, some_on, some_back, told_same}
 use Rattle.sorted_table.specs.declared.table_row.TableRow.{TableRow}
 use Rattle.sorted_table.specs.Tables.{TableState, IsSomeTable}
 use Rattle.sorted_table.specs.Tables as tables
@@ -183,13 +185,13 @@ module _ (store : RowStore) (root : Root) (log log' : LogState) (seen seen' : Co
       }
 
   -- the disk is ready for the store
-  pub ready_appended : ((crashed : Image) → images' crashed → IsElsewhereOld log.file images crashed) → log'.stopped ≡ false → log'.length < 2 ^ 63 → logs.IsReady log' seen' sizes' images' → IsReady (with_log store root log') seen' sizes' images'
-  ready_appended left running short log_ready = record {
+  pub ready_appended : ((crashed : Image) → images' crashed → IsElsewhereOld log.file images crashed) → log'.stopped ≡ false → logs.IsReady log' seen' sizes' images' → IsReady (with_log store root log') seen' sizes' images'
+  ready_appended left running log_ready = record {
     frames = ready.frames;
     slots_run = ready.slots_run;
     slots = slots_on store.slots seen seen' sizes sizes' images images' (elsewhere.bytes 0 zero_apart) (elsewhere.lengths 0 zero_apart)
         (λ crashed now. ((left crashed now).before, (left crashed now).was, (left crashed now).others 0 zero_apart)) ready.slots;
-    force = (force_ready.0, record { root = is; log_file = same_file ∙ log_file; log = record { running = running; short = short; ready = log_ready } });
+    force = (force_ready.0, record { root = is; log_file = same_file ∙ log_file; log = record { running = running; ready = log_ready } });
     tables = tables_elsewhere store.tables.items log.file seen seen' sizes sizes' elsewhere tables_differ ready.tables;
     marked = ready.marked;
     steady = λ tells crashed now. steady_after root (reading seen) (reading seen') crashed images is apart (steady (λ file. some_back (seen file) (seen' file) (stays_all log.file seen seen' sizes sizes' elsewhere stays file) (tells file)))
@@ -218,3 +220,65 @@ module _ (store : RowStore) (root : Root) (log log' : LogState) (seen seen' : Co
       leaves_both moment since old new (IsElsewhereOld log.file images) (λ image. IsBeforeOrAfter kept.bodies body (image log.file)) (IsCommitting kept body) others
       (told_is (seen log.file) (λ _. LeavesOnly moment since old new (λ image. IsBeforeOrAfter kept.bodies body (image log.file))) (tells log.file) told)
       (λ image first second. committing (record { root = root; log = log }) store.tables.items kept body (reading seen) image images is log_file by (steady tells) first second)
+
+-- ---- where nothing is written
+
+log_on : (log : LogState) (seen seen' : Contents) (sizes sizes' : Lengths) (images images' : Image → Type 0) → IsUnchanged seen seen' sizes sizes' → ((image : Image) → images' image → images image) → logs.IsReady log seen sizes images → logs.IsReady log seen' sizes' images'
+log_on log seen seen' sizes sizes' images images' same fewer ready = record {
+  size = ready.size;
+  known = still_known (sizes log.file) (sizes' log.file) ready.size (same.lengths log.file) ready.known;
+  reaches = ready.reaches;
+  some = ready.some;
+  told = subst (λ (now : Option (List ℕ)). OnTold now (logs.IsKept log images')) (sym (same.bytes log.file)) (at (seen log.file) ready.told);
+}
+  where
+    at : (told : Option (List ℕ)) → OnTold told (logs.IsKept log images) → OnTold told (logs.IsKept log images')
+    at None kept = tt
+    at (Some bytes) kept = record { bodies = kept.bodies; is = kept.is; durable = λ image now. kept.durable image (fewer image now) }
+
+force_on : (force : Option InForce) (open_tables : List TableState) (seen seen' : Contents) (sizes sizes' : Lengths) (images images' : Image → Type 0) → IsUnchanged seen seen' sizes sizes' → ((image : Image) → images' image → images image)
+    → IsForceReady force open_tables seen sizes images → IsForceReady force open_tables seen' sizes' images'
+force_on None open_tables seen seen' sizes sizes' images images' same fewer ready = ready
+force_on (Some force) open_tables seen seen' sizes sizes' images images' same fewer ready = (
+  ready.0,
+  record {
+    root = ready.1.root;
+    log_file = ready.1.log_file;
+    log = record { running = ready.1.log.running; ready = log_on force.log seen seen' sizes sizes' images images' same fewer ready.1.log.ready };
+  },
+)
+
+-- a store whose frames came back, on a disk on which nothing changed
+pub ready_same : (store : RowStore) (pool : Frames) (stopped : Bool) (seen seen' : Contents) (sizes sizes' : Lengths) (images images' : Image → Type 0) → IsUnchanged seen seen' sizes sizes' → ((image : Image) → images' image → images image)
+    → free_frames pool ≡ free_frames store.pool → IsReady store seen sizes images → IsReady (record store { pool = pool; stopped = stopped }) seen' sizes' images'
+ready_same store pool stopped seen seen' sizes sizes' images images' same fewer frames ready = record {
+  frames = omega (arith, frames, ready.frames);
+  slots_run = ready.slots_run;
+  slots = slots_on store.slots seen seen' sizes sizes' images images' (same.bytes 0) (same.lengths 0) (λ crashed now. (crashed, fewer crashed now, refl)) ready.slots;
+  force = force_on store.force store.tables.items seen seen' sizes sizes' images images' same fewer ready.force;
+  tables = tables_on store.tables.items seen seen' sizes sizes' same ready.tables;
+  marked = ready.marked;
+  steady = let P : Contents → Type 0 = λ s. TellsAll s → (crashed : Image) → images' crashed → IsAsNamed store.force (reading s) crashed in
+      subst P (sym (same_seen seen seen' sizes sizes' same)) (λ tells crashed now. ready.steady tells crashed (fewer crashed now));
+}
+
+pub keeps_same : (store : RowStore) (pool : Frames) (stopped : Bool) (seen seen' : Contents) (sizes sizes' : Lengths) (kept : Option Kept) (rows : RowMap) → IsUnchanged seen seen' sizes sizes' → Keeps store kept rows (reading seen)
+    → Keeps (record store { pool = pool; stopped = stopped }) kept rows (reading seen')
+keeps_same store pool stopped seen seen' sizes sizes' kept rows same keeps =
+    let P : Contents → Type 0 = λ s. KeepsBy store.force store.tables.items kept (reading s) in
+    record { by = subst P (sym (same_seen seen seen' sizes sizes' same)) keeps.by; rows_are = keeps.rows_are }
+
+-- no call at all leaves what was kept
+pub none_committing : {D : Type 0} (moment : D → ℕ) (since : D → ℕ → Image → Type 0) (disk : D) (store : RowStore) (seen : Contents) (sizes : Lengths) (images : Image → Type 0) (body : List ℕ) → ((image : Image) → since disk (moment disk) image → images image)
+    → IsReady store seen sizes images → TellsAll seen → (kept : Kept) (rows : RowMap) → Keeps store (Some kept) rows (reading seen) → LeavesOnly moment since disk disk (IsCommitting kept body)
+none_committing moment since disk store seen sizes images body only_now ready tells kept rows keeps =
+    started moment since disk (IsCommitting kept body) (λ image left. inl (stands store (Some kept) rows (reading seen) image keeps (ready.steady tells image (only_now image left))))
+
+-- the log of a store that is ready runs
+pub log_runs : (store : RowStore) (root : Root) (log : LogState) (seen : Contents) (sizes : Lengths) (images : Image → Type 0) → store.force ≡ Some (record { root = root; log = log }) → IsReady store seen sizes images → log.stopped ≡ false
+log_runs store root log seen sizes images was ready = (subst (λ (force : Option InForce). IsForceReady force store.tables.items seen sizes images) was ready.force).1.log.running
+
+-- what is left after it, by what each moment left
+pub left_after : {D : Type 0} (moment : D → ℕ) (since : D → ℕ → Image → Type 0) (file : ℕ) (images images' : Image → Type 0) (old new : D) → ((t : ℕ) (image : Image) → t ≤ moment new → images' image → since new t image)
+    → LeavesOnly moment since old new (IsElsewhereOld file images) → (crashed : Image) → images' crashed → IsElsewhereOld file images crashed
+left_after moment since file images images' old new counts_now leaves crashed now = leaves.each crashed (counts_now (moment old) crashed leaves.later now)

@@ -1,4 +1,5 @@
 pub mod Joined
+pub mod Firsts
 pub mod Maps
 pub mod Told
 pub mod Keeping

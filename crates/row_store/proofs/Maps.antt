@@ -1,6 +1,6 @@
 -- What maps of rows have at a key: of changes, of tables over one another, of what was last said.
-use Rattle.std.proofs.Common.{◌≡◌, ◌∙◌, sym, ap, subst, refl, List, [], ◌∷◌, Bool, true, false, cond, Option, Some, None}
-use Rattle.std.specs.Prelude.{if◌then◌else◌, IfSome}
+use Rattle.std.proofs.Common.{◌≡◌, ◌∙◌, sym, ap, subst, refl, List, [], ◌∷◌, Bool, true, false, cond, Option, Some, None, Result, Ok, Err}
+use Rattle.std.specs.Prelude.{if◌then◌else◌, IfSome, IfOk}
 use Rattle.std.specs.Ordering.{is_eq}
 use Rattle.std.specs.declared.cmp.Ordering.{Ordering}
 use Rattle.std.specs.declared.cmp.Ordering.TheVariants.{Less, Equal, Greater}
@@ -12,9 +12,13 @@ use Rattle.mds_base.specs.declared.attr.Attr.{Attr}
 use Rattle.mds_base.specs.declared.row_key.RowKey.{RowKey}
 use Rattle.mds_base.specs.RowKeys.{row_key_cmp, RowMap}
 use Rattle.mds_base.proofs.RowMaps.{row_keys_total, exact_row_keys, same_rows}
-use Rattle.mds_out.specs.Disk.{Image}
-use Rattle.row_store.specs.Rows.{with_row, laid_over, rows_under, rows_of}
-use Rattle.row_store.specs.Value.{HaveRows}
+use Rattle.mds_out.specs.Disk.{Image, Contents}
+use Rattle.row_store.specs.declared.change.Change.{Change}
+use Rattle.row_store.specs.declared.row_store.InForce.{InForce}
+use Rattle.row_store.specs.declared.row_store.RowStore.{RowStore}
+use Rattle.row_store.specs.Store.{Kept, TellsAll, reading, base_of}
+use Rattle.row_store.specs.Rows.{changed_all, with_row, laid_over, rows_under, rows_of}
+use Rattle.row_store.specs.Value.{HaveRows, KeepsBy, Keeps}
 use Rattle.sorted_table.specs.declared.table_row.Held.{Held}
 use Rattle.sorted_table.specs.declared.table_row.Held.TheVariants.{Absent, Tomb, Row}
 use Rattle.sorted_table.specs.declared.table_row.TableRow.{TableRow}
@@ -64,7 +68,7 @@ under_said table older (said ∷ rest) image key held found have says is =
 
 -- no table
 pub under_none : (rows : List (List TableRow)) (image : Image) (key : RowKey) → HaveRows [] rows image → None ≡ map.get (rows_under rows) key
-under_none [] image key have = refl
+under_none [] image key have = sym (map.get-empty row_key_cmp key)
 under_none (said ∷ rest) image key have = absurd have
 
 -- ---- what was last said of each key
@@ -127,3 +131,58 @@ taken_back entries mids others key attr before is mid back q = back q ∙ ap (co
     at : (here : Bool) → is_at (row_key_cmp key) q ≡ here → cond here before (cond here (Some attr) (lookup (is_at (row_key_cmp q)) entries)) ≡ lookup (is_at (row_key_cmp q)) entries
     at true tie = is ∙ ap (λ (k : RowKey). lookup (is_at (row_key_cmp k)) entries) (exact_row_keys key q (is_equal (row_key_cmp key q) tie))
     at false apart = refl
+
+-- ---- what is found in tables, where the disk tells its files
+
+abbrev pub Finds : List TableState → Contents → RowKey → Option Attr → Type 0
+Finds tables seen key found = TellsAll seen → (rows : List (List TableRow)) → HaveRows tables rows (reading seen) → found ≡ map.get (rows_under rows) key
+
+abbrev pub Says : TableState → Contents → RowKey → Held → Type 0
+Says table seen key held = TellsAll seen → (rows : List TableRow) → HasRows table rows (reading seen table.file) → held ≡ held_in rows key
+
+pub finds_none : (tables : List TableState) (seen : Contents) (key : RowKey) → tables ≡ [] → Finds tables seen key None
+finds_none tables seen key none = λ tells rows have. under_none rows (reading seen) key (subst (λ (t : List TableState). HaveRows t rows (reading seen)) none have)
+
+pub finds_older : {E : Type 0} (table : TableState) (older tables : List TableState) (seen seen' : Contents) (key : RowKey) (held : Held) (result : Result (Option Attr) E) → tables ≡ table ∷ older → seen' ≡ seen → held ≡ Absent
+    → Says table seen key held → IfOk result (Finds older seen' key) → IfOk result (Finds tables seen key)
+finds_older {E = E} table older tables seen seen' key held result split same absent says found =
+    let P : Contents → Type 0 = λ s. IfOk result (Finds older s key) in
+    let Q : List TableState → Type 0 = λ t. IfOk result (Finds t seen key) in
+    subst Q (sym split) (at result (subst P same found))
+  where
+    at : (r : Result (Option Attr) E) → IfOk r (Finds older seen key) → IfOk r (Finds (table ∷ older) seen key)
+    at (Ok x) finds = λ tells rows have. under_absent table older rows (reading seen) key x have (λ said has. sym absent ∙ says tells said has) (λ more left. finds tells more left)
+    at (Err e) finds = tt
+
+pub finds_first : (table : TableState) (older tables : List TableState) (seen : Contents) (key : RowKey) (held : Held) (found : Option Attr) → tables ≡ table ∷ older → ((rest : Option Attr) → held_or held rest ≡ found)
+    → Says table seen key held → Finds tables seen key found
+finds_first table older tables seen key held found split is says = λ tells rows have.
+    under_said table older rows (reading seen) key held found (subst (λ (t : List TableState). HaveRows t rows (reading seen)) split have) (says tells) is
+
+-- changes that were taken one after another
+pub applied : (base : RowMap) (olds puts news : List (RowKey × Option Attr)) (change : Change) (rest changes : List Change) → changes ≡ change ∷ rest
+    → ((q : RowKey) → lookup (is_at (row_key_cmp q)) puts ≡ cond (is_at (row_key_cmp change.key) q) (Some change.attr) (lookup (is_at (row_key_cmp q)) olds))
+    → laid_over base (rows_of news) ≡ changed_all (laid_over base (rows_of puts)) rest → laid_over base (rows_of news) ≡ changed_all (laid_over base (rows_of olds)) changes
+applied base olds puts news change rest changes split said is =
+    is ∙ ap (λ rows. changed_all rows rest) (one_said base olds puts change.key change.attr said) ∙ ap (changed_all (laid_over base (rows_of olds))) (sym split)
+
+-- ---- what a store has at a key
+
+-- it was said since the last flush
+pub found_said : (base rows : RowMap) (entries : List (RowKey × Option Attr)) (key : RowKey) (attr : Option Attr) → rows ≡ laid_over base (rows_of entries) → lookup (is_at (row_key_cmp key)) entries ≡ Some attr → attr ≡ map.get rows key
+found_said base rows entries key attr is said =
+    sym (ap (λ (m : RowMap). map.get m key) is ∙ get-said base entries key ∙ ap (λ found. said_or found (map.get base key)) said)
+
+some_under : (force : Option InForce) (tables : List TableState) (kept : Option Kept) (image : Image) → KeepsBy force tables kept image → (rows : List (List TableRow)) × HaveRows tables rows image × (base_of kept ≡ rows_under rows)
+some_under None tables None image by = ([], subst (λ (t : List TableState). HaveRows t [] image) (sym by.1) tt, refl)
+some_under None tables (Some kept) image by = absurd by
+some_under (Some force) tables None image by = absurd by
+some_under (Some force) tables (Some kept) image by = (by.rows, by.hold, by.base)
+
+-- it was not, and is found in the tables
+pub found_under : (store : RowStore) (seen : Contents) (key : RowKey) (found : Option Attr) → lookup (is_at (row_key_cmp key)) store.fresh.entries ≡ None → Finds store.tables.items seen key found → TellsAll seen → (kept : Option Kept) (rows : RowMap)
+    → Keeps store kept rows (reading seen) → found ≡ map.get rows key
+found_under store seen key found none finds tells kept rows keeps =
+    let under = some_under store.force store.tables.items kept (reading seen) keeps.by in
+    finds tells under.0 under.1 ∙ ap (λ (m : RowMap). map.get m key) (sym under.2)
+    ∙ sym (ap (λ (m : RowMap). map.get m key) keeps.rows_are ∙ get-said (base_of kept) store.fresh.entries key ∙ ap (λ said. said_or said (map.get (base_of kept) key)) none)

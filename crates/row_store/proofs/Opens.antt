@@ -1,6 +1,6 @@
 -- What an opening finds.
 use Rattle.std.proofs.Common.{◌≡◌, ◌∙◌, inl, inr, sym, ap, subst, refl, ℕ, zero, suc, ◌<◌, ◌≤◌, List, [], ◌∷◌, ◌++◌, length, append_assoc, Option, Some, None, Result, Ok, Err, true, false, arith}
-use Rattle.std.specs.Prelude.{IsSome, IfSome, unwrap_or, Contains}
+use Rattle.std.specs.Prelude.{IsSome, IfSome, unwrap_or, Contains, IfErr}
 use Rattle.std.specs.BTreeMap.{is_at}
 use Rattle.std.specs.Map.{lookup}
 use Rattle.frame_pool.specs.Frames.{Frames, free_frames}
@@ -30,6 +30,7 @@ use Rattle.root_slots.specs.declared.root_slots.SlotDamage.TheVariants as slot
 use Rattle.root_slots.specs.Root.{is_root, files_of}
 use Rattle.root_slots.specs.Slot.{HasBadRoot, HasNoRoot, found_in, root_in}
 use Rattle.root_slots.specs.Slots.{IsKept, IsRead, IsReady as AreSlotsReady}
+use Rattle.root_slots.proofs.Readings.{root_told, none_told}
 use Rattle.row_store.specs.Answers.{root_fault_of, log_fault_of, table_fault_of}
 use Rattle.row_store.specs.Damages.{IsRootBad, IsState, IsStateBad, IsTable, IsTableBad, AreTables, IsFirstBad, IsLogBad, IsBadUnder, IsBad, IsRefusal}
 use Rattle.row_store.specs.declared.row_store.InForce.{InForce}
@@ -232,6 +233,14 @@ later_bad t first files seen seen' sizes' images' file place wrong same there op
       let table_is : IsTable (reading seen' t.file) = (here.rows, record { blocks = here.has.blocks; are = here.has.are; rows_are = here.has.rows_are; bytes = here.has.bytes_are }) in
       inr (subst (λ (f : ℕ). IsTable (reading seen' f)) there table_is, is tells)))
 
+pub more_refused : {T : Type 0} (t : TableState) (first : ℕ) (rest files : List ℕ) (seen seen' : Contents) (sizes' : Lengths) (images' : Image → Type 0) (result : Result T StoreFault) → files ≡ first ∷ rest → seen' ≡ seen → t.file ≡ first
+    → IsTableOpen t seen' sizes' images' → IfErr result (IsRefusal (λ file place wrong. TellsAll seen' → IsFirstBad rest file place wrong (reading seen'))) → IfErr result (IsRefusal (λ file place wrong. TellsAll seen → IsFirstBad files file place wrong (reading seen)))
+more_refused t first rest files seen seen' sizes' images' (Ok x) split same there opened is = tt
+more_refused t first rest files seen seen' sizes' images' (Err fault) split same there opened is =
+    let P : List ℕ → Type 0 = λ fs. IsRefusal (λ file place wrong. TellsAll seen → IsFirstBad fs file place wrong (reading seen)) fault in
+    subst P (sym split) (refusal_more (λ file place wrong. TellsAll seen' → IsFirstBad rest file place wrong (reading seen')) (λ file place wrong. TellsAll seen → IsFirstBad (first ∷ rest) file place wrong (reading seen)) fault
+    (λ file place wrong bad. later_bad t first rest seen seen' sizes' images' file place wrong same there opened bad) is)
+
 -- under the root that was found
 pub root_bad : (root : Root) (seen seen' : Contents) (file place : ℕ) (wrong : Damage) → seen' ≡ seen → OnTold (seen' 0) (λ bytes. root_in bytes ≡ Some root) → (TellsAll seen' → IsBadUnder root file place wrong (reading seen'))
     → TellsAll seen → IsBad file place wrong (reading seen)
@@ -286,3 +295,28 @@ module _ (pool : Frames) (value : RootSlots) (store : RowStore) (new : IsNewStor
       rows_are = sym (ap (λ (entries : List (RowKey × Option Attr)). laid_over (base_of None) (rows_of entries)) new.fresh);
     },
   )
+
+-- ---- what the reading of the root says
+
+pub root_read : (told told' : Option (List ℕ)) (result : Result (RootSlots × Option Root) RootFault) (slots : RootSlots) (found : Option Root) (root : Root) → told' ≡ told → result ≡ Ok (slots, found) → found ≡ Some root
+    → OnTold told (λ file. IsRead (found_in file) result) → OnTold told' (λ file. root_in file ≡ Some root)
+root_read told told' result slots found root same is there read =
+    let P : Result (RootSlots × Option Root) RootFault → Type 0 = λ r. OnTold told (λ file. IsRead (found_in file) r) in
+    let Q : Option (List ℕ) → Type 0 = λ t. OnTold t (λ file. root_in file ≡ Some root) in
+    let Said : Option Root → Result (RootSlots × Option Root) RootFault = λ o. Ok (slots, o) in
+    subst Q (sym same) (root_told told slots root (subst P (is ∙ ap Said there) read))
+
+pub none_read : (told told' : Option (List ℕ)) (result : Result (RootSlots × Option Root) RootFault) (slots : RootSlots) (found : Option Root) → told' ≡ told → result ≡ Ok (slots, found) → found ≡ None
+    → OnTold told (λ file. IsRead (found_in file) result) → OnTold told' HasNoRoot
+none_read told told' result slots found same is there read =
+    let P : Result (RootSlots × Option Root) RootFault → Type 0 = λ r. OnTold told (λ file. IsRead (found_in file) r) in
+    let Q : Option (List ℕ) → Type 0 = λ t. OnTold t HasNoRoot in
+    let Said : Option Root → Result (RootSlots × Option Root) RootFault = λ o. Ok (slots, o) in
+    subst Q (sym same) (none_told told slots (subst P (is ∙ ap Said there) read))
+
+pub found_refused : {T : Type 0} (root : Root) (seen seen' : Contents) (result : Result T StoreFault) → seen' ≡ seen → OnTold (seen' 0) (λ bytes. root_in bytes ≡ Some root)
+    → IfErr result (IsRefusal (λ file place wrong. TellsAll seen' → IsBadUnder root file place wrong (reading seen'))) → IfErr result (IsRefusal (λ file place wrong. TellsAll seen → IsBad file place wrong (reading seen)))
+found_refused root seen seen' (Ok x) same in_force is = tt
+found_refused root seen seen' (Err fault) same in_force is =
+    refusal_more (λ file place wrong. TellsAll seen' → IsBadUnder root file place wrong (reading seen')) (λ file place wrong. TellsAll seen → IsBad file place wrong (reading seen)) fault
+    (λ file place wrong bad. root_bad root seen seen' file place wrong same in_force bad) is

@@ -1,6 +1,6 @@
 -- What a disk tells, and that it tells the same after calls that change nothing.
 use mathlib.Core.Path.{fun_ext}
-use Rattle.std.proofs.Common.{◌≡◌, ◌∙◌, sym, ap, subst, refl, ℕ, List, [], ◌∷◌, Option, Some, None, Result, Ok, Err}
+use Rattle.std.proofs.Common.{◌≡◌, ◌∙◌, sym, ap, subst, refl, ℕ, List, [], ◌∷◌, Option, Some, None, Bool, true, Result, Ok, Err}
 use Rattle.std.specs.Prelude.{IsSome, unwrap_or}
 use Rattle.mds_base.specs.RowKeys.{RowMap}
 use Rattle.mds_base.specs.declared.store_fault.StoreFault.{StoreFault}
@@ -9,7 +9,7 @@ use Rattle.mds_out.specs.Disk.{Image, Contents, Lengths, IsUnchanged, StaysTold}
 use Rattle.mds_out.specs.Known.{OnTold}
 use Rattle.row_store.specs.Answers.{table_fault_of, IsLookAnswer}
 use Rattle.row_store.specs.Store.{TellsAll, reading}
-use Rattle.row_store.specs.Value.{AreReady}
+use Rattle.row_store.specs.Value.{AreReady, stops_by}
 use Rattle.sorted_table.specs.Answers as answers
 use Rattle.sorted_table.specs.declared.fault.TableFault.{TableFault}
 use Rattle.sorted_table.specs.declared.fault.TableFault.TheVariants as table
@@ -30,6 +30,9 @@ when_told (Some bytes) P Q some is gives = gives is
 pub told_is : (told : Option (List ℕ)) (P : List ℕ → Type 0) → IsSome told → OnTold told P → P (unwrap_or told [])
 told_is None P some is = cc
 told_is (Some bytes) P some is = is
+
+abbrev pub refusal : (T : Type 0) → StoreFault → Result T StoreFault
+refusal T fault = Err fault
 
 -- ---- look-ups
 
@@ -93,3 +96,15 @@ told_same told told' same = subst (λ (now : Option (List ℕ)). StaysTold told 
     here : (told : Option (List ℕ)) → StaysTold told told
     here None = tt
     here (Some bytes) = tt
+
+-- ---- what stops a store
+
+pub stops_at : (T : Type 0) (fault : StoreFault) (before : Bool) → refusal T fault ≡ refusal T Device → stops_by fault before ≡ true
+stops_at T fault before is = let same : fault ≡ Device = cc in subst (λ (f : StoreFault). stops_by f before ≡ true) (sym same) refl
+
+pub runs_on : (T : Type 0) (fault : StoreFault) (before : Bool) → (refusal T fault ≡ refusal T Device → ⊥) → stops_by fault before ≡ before
+runs_on T Device before none = absurd (none refl)
+runs_on T Stopped before none = refl
+runs_on T (Damaged file place damage) before none = refl
+runs_on T Room before none = refl
+runs_on T OutOfMemory before none = refl

@@ -1,9 +1,11 @@
 -- The value of a row store, and what its disk owes it.
-use Rattle.std.specs.Prelude.{◌≡◌, ◌<◌, ◌≤◌, ◌^◌, ℕ, List, [], ◌∷◌, Option, None, Some, IfSome, IsSome, map, true, false, ⊤}
+use Rattle.std.specs.Prelude.{◌≡◌, ◌<◌, ◌≤◌, ◌^◌, ℕ, List, [], ◌∷◌, Option, None, Some, IfSome, IsSome, map, Bool, true, false, ⊤}
 use Rattle.std.specs.List.{AllByRecursion}
 use Rattle.frame_pool.specs.Frames.{Frames, free_frames}
 use Rattle.gate_log.specs.LogState.{LogState, IsLogOf, IsReady as IsLogFile}
 use Rattle.mds_base.specs.declared.row_key.RowKey.{RowKey}
+use Rattle.mds_base.specs.declared.store_fault.StoreFault.{StoreFault}
+use Rattle.mds_base.specs.declared.store_fault.StoreFault.TheVariants.{Device, Stopped, Damaged, Room, OutOfMemory}
 use Rattle.mds_base.specs.RowKeys.{RowMap, row_key_cmp}
 use Rattle.std.specs.BTreeMap as tree
 use Rattle.mds_out.specs.Disk.{Image, Contents, Lengths}
@@ -78,10 +80,9 @@ AreOpen tables seen sizes images = AllByRecursion (λ table. IsTableOpen table s
 abbrev pub AreReady : List TableState → Contents → Lengths → Type 0
 AreReady tables seen sizes = AllByRecursion (λ table. IsTableReady table seen sizes) tables
 
--- the log is open, and short enough to be read
+-- the log is open
 pub record IsLogReady (state : LogState) (seen : Contents) (sizes : Lengths) (images : Image → Type 0) : Type 0 where
   pub running : state.stopped ≡ false
-  pub short : state.length < 2 ^ 63
   pub ready : IsLogFile state seen sizes images
 
 -- the root is one that a slot can have, and its log is open
@@ -112,15 +113,23 @@ IsNew store = store.force ≡ None
 abbrev pub HasRoot : RowStore → Type 0
 HasRoot store = IsSome store.force
 
--- the log may take one body more
-abbrev pub IsLogShort : Option InForce → Type 0
-IsLogShort None = ⊤
-IsLogShort (Some force) = force.log.length ≤ 2 ^ 62
+-- the bytes of the log in force
+abbrev pub length_of : Option InForce → ℕ
+length_of None = 0
+length_of (Some force) = force.log.length
 
 -- the disk owes the store what it owed
 abbrev pub StaysReady : RowStore → RowStore → Type 0
 StaysReady old new = (new.pool ≡ old.pool) × (new.slots ≡ old.slots) × (new.force ≡ old.force) × (new.tables.items ≡ old.tables.items)
     × (((key : RowKey) → IfSome (tree.get row_key_cmp old.fresh key) IsMarked) → (key : RowKey) → IfSome (tree.get row_key_cmp new.fresh key) IsMarked)
+
+-- whether a store has stopped once this was answered
+abbrev pub stops_by : StoreFault → Bool → Bool
+stops_by Device before = true
+stops_by Stopped before = before
+stops_by (Damaged file place damage) before = before
+stops_by Room before = before
+stops_by OutOfMemory before = before
 
 -- the store of a new disk
 pub record IsNewStore (pool : Frames) (slots : RootSlots) (store : RowStore) : Type 0 where

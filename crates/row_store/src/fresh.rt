@@ -39,6 +39,16 @@ pub(crate) fn apply(
     }
 }
 
+/// What was last said of a key.
+pub(crate) fn last_said(
+    fresh: &BTreeMap<RowKey, Option<Attr>>,
+    key: &RowKey,
+) -> Option<Option<Attr>>
+    ensures { result ≡ tree.get row_key_cmp fresh.now key.now }
+{
+    fresh.get(key).copied()
+}
+
 // Says of the key of a change what the change says, and answers what was said before.
 fn put(
     alloc: Global,

@@ -13,11 +13,11 @@ ghost use Rattle.row_store.specs.Answers.{IsStoreReading, IsStoreChanging, IsLoo
 ghost use Rattle.row_store.specs.Damages.{IsRefusal, IsBad, IsBadUnder};
 ghost use Rattle.row_store.specs.Rows.{changed_all, AreMarked};
 ghost use Rattle.row_store.specs.Store.{Kept, StandsFor, TellsAll, reading, base_of, with_body, IsCommitting};
-ghost use Rattle.row_store.specs.Value.{IsReady, Keeps, IsNew, HasRoot, IsLogShort, StaysReady, KeptStands, IsNewStore};
+ghost use Rattle.row_store.specs.Value.{IsReady, Keeps, IsNew, HasRoot, length_of, StaysReady, KeptStands, IsNewStore, stops_by};
 
 use crate::change::Change;
 use crate::faults::{of_log, of_root};
-use crate::fresh::apply;
+use crate::fresh::{apply, last_said};
 use crate::looks::row_in;
 use crate::opening::open_with;
 use frame_pool::Pool;
@@ -133,7 +133,8 @@ impl RowStore {
     /// The bytes of the log in force, its closed gate included. The store is not new.
     pub fn log_length(&self) -> u64
         requires { HasRoot self.now }
-        ensures { (kept : Kept) → (rows : RowMap) → (image : Image) → Keeps self.now (Some kept) rows image → result ≡ log_length kept.bodies }
+        ensures bytes { result ≡ length_of self.now.force }
+        ensures kept { (kept : Kept) → (rows : RowMap) → (image : Image) → Keeps self.now (Some kept) rows image → result ≡ log_length kept.bodies }
     {
         let Some(force) = &self.force else {
             unreachable!()
@@ -176,16 +177,24 @@ impl RowStore {
         if self.stopped {
             return Err(StoreFault::Stopped);
         }
-        if let Some(attr) = self.fresh.get(key) {
-            return Ok(*attr);
+        if let Some(attr) = last_said(&self.fresh, key) {
+            return Ok(attr);
         }
         match row_in(disk, &mut self.pool, &self.tables, key) {
             Ok(found) => Ok(found),
-            Err(StoreFault::Device) => {
-                self.stopped = true;
-                Err(StoreFault::Device)
+            Err(fault) => {
+                self.stop_at(&fault);
+                Err(fault)
             }
-            Err(fault) => Err(fault),
+        }
+    }
+
+    // The store stops where the device failed.
+    fn stop_at(&mut self, fault: &StoreFault)
+        ensures { self.new ≡ record self.old { stopped = stops_by fault.now self.old.stopped } }
+    {
+        if let StoreFault::Device = fault {
+            self.stopped = true;
         }
     }
 
@@ -232,7 +241,7 @@ impl RowStore {
     fn append<D: Disk>(&mut self, disk: &mut D, piece: &Piece) -> Result<(), StoreFault>
         requires root { HasRoot self.old }
         requires running { self.old.stopped ≡ false }
-        requires short { IsLogShort self.old.force }
+        requires short { length_of self.old.force ≤ LONGEST }
         requires ready { IsReady self.old (D.seen disk.old) (D.sizes disk.old) (D.images disk.old) }
         ensures kept { OnOk result (TellsAll (D.seen disk.old) → (kept : Kept) → (rows : RowMap) → Keeps self.old (Some kept) rows (reading (D.seen disk.old))
             → Keeps self.new (Some (with_body kept piece.now)) rows (reading (D.seen disk.new))) }
