@@ -1,7 +1,7 @@
 -- An append to the log in force.
 use Rattle.std.proofs.lemmas.Bool.{cases_eq}
-use Rattle.std.proofs.Common.{◌≡◌, ◌≢◌, ◌⊎◌, inl, inr, ⊎_elim, ◌∙◌, sym, ap, subst, refl, ℕ, suc, ◌+◌, ◌≤◌, ◌<◌, ◌^◌, List, [], ◌∷◌, ◌++◌, length, Option, Some, None, Bool, true, false, arith}
-use Rattle.std.specs.Prelude.{IsSome, unwrap_or, map, slice_index_or}
+use Rattle.std.proofs.Common.{◌≡◌, ◌≢◌, inl, inr, ⊎_elim, ◌∙◌, sym, ap, subst, refl, ℕ, suc, ◌≤◌, ◌<◌, List, [], ◌∷◌, ◌++◌, length, Option, Some, None, Bool, true, false, arith}
+use Rattle.std.specs.Prelude.{IsSome, unwrap_or, slice_index_or}
 use Rattle.gate_log.specs.Log.{HoldsLog, IsBeforeOrAfter}
 use Rattle.gate_log.specs.LogState.{LogState, IsLogOf, HasBodies, IsElsewhereOld}
 use Rattle.gate_log.specs.LogState as logs
@@ -13,19 +13,17 @@ use Rattle.mds_out.specs.Known.{OnTold}
 use Rattle.root_slots.specs.Crash.{IsUnder}
 use Rattle.root_slots.specs.declared.root.Root.{Root}
 use Rattle.root_slots.specs.declared.root_slots.RootSlots.{RootSlots}
-use Rattle.root_slots.specs.Root.{is_root, files_of}
+use Rattle.root_slots.specs.Root.{is_root}
 use Rattle.root_slots.specs.Slot.{root_in}
 use Rattle.root_slots.specs.Slots as slots
 use Rattle.root_slots.proofs.Crashes.{names_no_zero, state_apart, tables_apart}
 use Rattle.row_store.specs.declared.row_store.InForce.{InForce}
 use Rattle.row_store.specs.Store.{Kept, HoldsState, TellsAll, reading, StandsFor, with_body, IsCommitting}
 use Rattle.row_store.specs.declared.row_store.RowStore.{RowStore}
-use Rattle.row_store.specs.Value.{HaveRows, IsOpenOn, KeepsBy, Keeps, AreReady, IsAsNamed, IsRootReady, IsForceReady, IsReady}
+use Rattle.row_store.specs.Value.{IsOpenOn, KeepsBy, Keeps, AreReady, IsAsNamed, IsRootReady, IsForceReady, IsReady}
 use Rattle.row_store.proofs.Keeping.{AreSameIn, files_of_tables, rows_on, stands, stands_with, named_state, named_tables}
 use Rattle.row_store.proofs.Told.{same_seen, tables_on, still_known, told_is, to_told, some_on, some_back, told_same}
-use Rattle.sorted_table.specs.declared.table_row.TableRow.{TableRow}
 use Rattle.sorted_table.specs.Tables.{TableState, IsSomeTable}
-use Rattle.sorted_table.specs.Tables as tables
 
 -- two things that each moment leaves
 pub leaves_both : {D : Type 0} (moment : D → ℕ) (since : D → ℕ → Image → Type 0) (old new : D) (P Q R : Image → Type 0) → LeavesOnly moment since old new P → LeavesOnly moment since old new Q → ((image : Image) → P image → Q image → R image) → LeavesOnly moment since old new R

@@ -1,8 +1,8 @@
 -- A list and its first element, as a slice pattern takes it apart; and what a result is known to be.
 use Rattle.std.proofs.Common.{◌≡◌, ◌∙◌, sym, ap, subst, ℕ, ◌-◌, ◌≤◌, ◌<◌, List, [], ◌∷◌, length, take, drop, get_or, Result, Ok, Err, refl, arith}
-use Rattle.std.specs.Prelude.{IfOk, IfErr, OnOk, OnErr, IsErrAnd}
+use Rattle.std.specs.Prelude.{IfErr, OnOk, OnErr, IsErrAnd}
 use Rattle.std.proofs.lemmas.List.{take_all}
-use Rattle.mds_out.specs.Disk.{Image, Contents, Lengths}
+use Rattle.mds_out.specs.Disk.{Contents, Lengths}
 use Rattle.row_store.specs.Value.{AreReady}
 use Rattle.sorted_table.specs.Tables.{TableState}
 

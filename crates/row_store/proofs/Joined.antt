@@ -1,14 +1,14 @@
 -- Runs of calls of a store's disk, and refusals of its parts as its own.
-use Rattle.std.proofs.Common.{◌≡◌, ◌≢◌, ◌∙◌, sym, refl, ap, ℕ, ◌≤◌, Option, Some, None, Result, Ok, Err, arith}
-use Rattle.std.specs.Prelude.{IfErr, IsErrOf}
-use Rattle.gate_log.specs.Disks.{HasLogCause, IsLogChanging}
+use Rattle.std.proofs.Common.{◌≡◌, ◌≢◌, ◌∙◌, refl, ap, ℕ, ◌≤◌, Option, Some, None, Result, Ok, Err, arith}
+use Rattle.std.specs.Prelude.{IsErrOf}
+use Rattle.gate_log.specs.Disks.{HasLogCause}
 use Rattle.gate_log.specs.declared.gate_log.LogFault.{LogFault}
 use Rattle.gate_log.specs.declared.gate_log.LogFault.TheVariants as log
 use Rattle.mds_base.specs.declared.store_fault.StoreFault.{StoreFault}
-use Rattle.mds_base.specs.declared.store_fault.StoreFault.TheVariants.{Device, Stopped, Damaged, Room, OutOfMemory}
+use Rattle.mds_base.specs.declared.store_fault.StoreFault.TheVariants.{Device, Stopped, OutOfMemory}
 use Rattle.mds_out.specs.declared.disk.DiskFault.{DiskFault}
 use Rattle.mds_out.specs.declared.disk.DiskFault.TheVariants as disk
-use Rattle.mds_out.specs.Disk.{Image, Contents, Lengths, IsUnchanged, LeavesOnly, Elapses, IsReading, IsChanging, HasDiskCause}
+use Rattle.mds_out.specs.Disk.{Image, Contents, Lengths, IsUnchanged, LeavesOnly, Elapses, HasDiskCause}
 use Rattle.mds_out.specs.Fault.{Rose}
 use Rattle.mds_out.specs.Known.{OnTold}
 use Rattle.mds_out.proofs.Moments.{started, goes_on, both}

@@ -1,16 +1,14 @@
 -- What is kept, in an image in which the root in force and its files are as in another.
-use Rattle.std.proofs.Common.{◌≡◌, ◌∙◌, sym, ap, subst, refl, ℕ, zero, suc, ◌<◌, List, [], ◌∷◌, length, Option, Some, None, arith}
+use Rattle.std.proofs.Common.{◌≡◌, sym, subst, refl, ℕ, zero, suc, ◌<◌, List, [], ◌∷◌, length, Option, Some, None, arith}
 use Rattle.std.specs.Prelude.{map, slice_index_or}
 use Rattle.gate_log.specs.Log.{HoldsLog}
-use Rattle.mds_base.specs.RowKeys.{RowMap}
 use Rattle.mds_out.specs.Disk.{Image}
 use Rattle.root_slots.specs.Crash.{IsUnder}
 use Rattle.root_slots.specs.declared.root.Root.{Root}
 use Rattle.root_slots.specs.Slot.{HasNoRoot, root_in}
 use Rattle.row_store.specs.declared.row_store.InForce.{InForce}
-use Rattle.row_store.specs.declared.row_store.RowStore.{RowStore}
 use Rattle.row_store.specs.Store.{Kept, HoldsState, HoldTables, StandsFor}
-use Rattle.row_store.specs.Value.{HaveRows, IsOpenOn, KeepsBy, Keeps, IsAsNamed, KeptStands}
+use Rattle.row_store.specs.Value.{HaveRows, IsOpenOn, KeepsBy, IsAsNamed, KeptStands}
 use Rattle.sorted_table.specs.declared.table_row.TableRow.{TableRow}
 use Rattle.sorted_table.specs.TableFiles.{HoldsTable}
 use Rattle.sorted_table.specs.Tables.{TableState, HasRows}
@@ -63,15 +61,18 @@ named_tables root image crashed under k file below at = under.files file (suc (s
 pub stands_with : (force : InForce) (tables : List TableState) (kept : Kept) (bodies : List (List ℕ)) (image crashed : Image) → IsOpenOn force.root force.log tables kept image
     → root_in (crashed 0) ≡ Some force.root → crashed force.root.state ≡ image force.root.state → AreSameIn force.root.tables image crashed → HoldsLog bodies (crashed force.root.log_file)
     → StandsFor (Some (record kept { bodies = bodies })) crashed
-stands_with force tables kept bodies image crashed by in_force state same log = (force.root, record {
-  tables = by.rows;
-  in_force = in_force;
-  state = subst (HoldsState kept.state) (sym state) by.state;
-  log = log;
-  hold = (let P : List ℕ → Type 0 = λ files. AreSameIn files image crashed → HoldTables files by.rows crashed in
-      subst P by.files (tables_hold tables by.rows image crashed by.hold) same);
-  base = by.base;
-})
+stands_with force tables kept bodies image crashed by in_force state same log = (
+  force.root,
+  record {
+    tables = by.rows;
+    in_force = in_force;
+    state = subst (HoldsState kept.state) (sym state) by.state;
+    log = log;
+    hold = (let P : List ℕ → Type 0 = λ files. AreSameIn files image crashed → HoldTables files by.rows crashed in
+        subst P by.files (tables_hold tables by.rows image crashed by.hold) same);
+    base = by.base;
+  },
+)
 
 stands_by : (force : Option InForce) (tables : List TableState) (kept : Option Kept) (image crashed : Image) → KeepsBy force tables kept image → IsAsNamed force image crashed → StandsFor kept crashed
 stands_by None tables None image crashed by named = subst HasNoRoot (sym named) by.0

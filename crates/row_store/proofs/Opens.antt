@@ -1,5 +1,5 @@
 -- What an opening finds.
-use Rattle.std.proofs.Common.{◌≡◌, ◌∙◌, inl, inr, sym, ap, subst, refl, ℕ, zero, suc, ◌<◌, ◌≤◌, List, [], ◌∷◌, ◌++◌, length, append_assoc, Option, Some, None, Result, Ok, Err, true, false, arith}
+use Rattle.std.proofs.Common.{◌≡◌, ◌∙◌, inl, inr, sym, ap, subst, refl, ℕ, zero, suc, ◌≤◌, List, [], ◌∷◌, ◌++◌, Option, Some, None, Result, Ok, Err, true, false, arith}
 use Rattle.std.specs.Prelude.{IsSome, IfSome, unwrap_or, Contains, IfErr}
 use Rattle.std.specs.BTreeMap.{is_at}
 use Rattle.std.specs.Map.{lookup}
@@ -25,14 +25,13 @@ use Rattle.root_slots.specs.declared.root.Root.{Root}
 use Rattle.root_slots.specs.declared.root_slots.RootFault.{RootFault}
 use Rattle.root_slots.specs.declared.root_slots.RootFault.TheVariants as root_faults
 use Rattle.root_slots.specs.declared.root_slots.RootSlots.{RootSlots}
-use Rattle.root_slots.specs.declared.root_slots.SlotDamage.{SlotDamage}
 use Rattle.root_slots.specs.declared.root_slots.SlotDamage.TheVariants as slot
 use Rattle.root_slots.specs.Root.{is_root, files_of}
 use Rattle.root_slots.specs.Slot.{HasBadRoot, HasNoRoot, found_in, root_in}
 use Rattle.root_slots.specs.Slots.{IsKept, IsRead, IsReady as AreSlotsReady}
 use Rattle.root_slots.proofs.Readings.{root_told, none_told}
 use Rattle.row_store.specs.Answers.{root_fault_of, log_fault_of, table_fault_of}
-use Rattle.row_store.specs.Damages.{IsRootBad, IsState, IsStateBad, IsTable, IsTableBad, AreTables, IsFirstBad, IsLogBad, IsBadUnder, IsBad, IsRefusal}
+use Rattle.row_store.specs.Damages.{IsState, IsStateBad, IsTable, IsTableBad, AreTables, IsFirstBad, IsLogBad, IsBadUnder, IsBad, IsRefusal}
 use Rattle.row_store.specs.declared.row_store.InForce.{InForce}
 use Rattle.row_store.specs.declared.row_store.RowStore.{RowStore}
 use Rattle.row_store.specs.Rows.{rows_under, laid_over, rows_of}
@@ -46,7 +45,7 @@ use Rattle.sorted_table.specs.declared.fault.TableDamage.TheVariants as damage
 use Rattle.sorted_table.specs.declared.fault.TableFault.{TableFault}
 use Rattle.sorted_table.specs.declared.fault.TableFault.TheVariants as table
 use Rattle.sorted_table.specs.declared.table_row.TableRow.{TableRow}
-use Rattle.sorted_table.specs.Tables.{TableState, IsSomeTable, IsDurable}
+use Rattle.sorted_table.specs.Tables.{TableState, IsSomeTable}
 
 -- ---- what was opened stays so while nothing changes
 
@@ -229,9 +228,9 @@ pub later_bad : (t : TableState) (first : ℕ) (files : List ℕ) (seen seen' : 
 later_bad t first files seen seen' sizes' images' file place wrong same there opened is =
     let P : Contents → Type 0 = λ s. TellsAll s → IsFirstBad (first ∷ files) file place wrong (reading s) in
     subst P same (λ tells. (
-      let here = some_table t (seen' t.file) (tells t.file) opened.ready.told in
-      let table_is : IsTable (reading seen' t.file) = (here.rows, record { blocks = here.has.blocks; are = here.has.are; rows_are = here.has.rows_are; bytes = here.has.bytes_are }) in
-      inr (subst (λ (f : ℕ). IsTable (reading seen' f)) there table_is, is tells)))
+    let here = some_table t (seen' t.file) (tells t.file) opened.ready.told in
+    let table_is : IsTable (reading seen' t.file) = (here.rows, record { blocks = here.has.blocks; are = here.has.are; rows_are = here.has.rows_are; bytes = here.has.bytes_are }) in
+    inr (subst (λ (f : ℕ). IsTable (reading seen' f)) there table_is, is tells)))
 
 pub more_refused : {T : Type 0} (t : TableState) (first : ℕ) (rest files : List ℕ) (seen seen' : Contents) (sizes' : Lengths) (images' : Image → Type 0) (result : Result T StoreFault) → files ≡ first ∷ rest → seen' ≡ seen → t.file ≡ first
     → IsTableOpen t seen' sizes' images' → IfErr result (IsRefusal (λ file place wrong. TellsAll seen' → IsFirstBad rest file place wrong (reading seen'))) → IfErr result (IsRefusal (λ file place wrong. TellsAll seen → IsFirstBad files file place wrong (reading seen)))

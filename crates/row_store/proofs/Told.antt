@@ -1,14 +1,12 @@
 -- What a disk tells, and that it tells the same after calls that change nothing.
 use mathlib.Core.Path.{fun_ext}
-use Rattle.std.proofs.Common.{◌≡◌, ◌∙◌, sym, ap, subst, refl, ℕ, List, [], ◌∷◌, Option, Some, None, Bool, true, Result, Ok, Err}
+use Rattle.std.proofs.Common.{◌≡◌, ◌∙◌, sym, subst, refl, ℕ, List, [], ◌∷◌, Option, Some, None, Bool, true, Result, Ok, Err}
 use Rattle.std.specs.Prelude.{IsSome, unwrap_or}
-use Rattle.mds_base.specs.RowKeys.{RowMap}
 use Rattle.mds_base.specs.declared.store_fault.StoreFault.{StoreFault}
 use Rattle.mds_base.specs.declared.store_fault.StoreFault.TheVariants.{Device, Stopped, Damaged, Room, OutOfMemory}
-use Rattle.mds_out.specs.Disk.{Image, Contents, Lengths, IsUnchanged, StaysTold}
+use Rattle.mds_out.specs.Disk.{Contents, Lengths, IsUnchanged, StaysTold}
 use Rattle.mds_out.specs.Known.{OnTold}
 use Rattle.row_store.specs.Answers.{table_fault_of, IsLookAnswer}
-use Rattle.row_store.specs.Store.{TellsAll, reading}
 use Rattle.row_store.specs.Value.{AreReady, stops_by}
 use Rattle.sorted_table.specs.Answers as answers
 use Rattle.sorted_table.specs.declared.fault.TableFault.{TableFault}

@@ -1,6 +1,6 @@
 -- What is wrong with a disk, and where: the root first, then the state's length and sum, the tables, newest first, and the
 -- gates of the log.
-use Rattle.std.specs.Prelude.{◌≡◌, ◌≢◌, ◌⊎◌, ◌+◌, ◌<◌, ◌≤◌, ℕ, List, [], ◌∷◌, length, take, drop, Some, ⊤}
+use Rattle.std.specs.Prelude.{◌≡◌, ◌≢◌, ◌⊎◌, ◌+◌, ◌<◌, ℕ, List, [], ◌∷◌, length, take, drop, Some, ⊤}
 use Rattle.gate_log.specs.Log.{IsCutShort}
 use Rattle.mds_base.specs.declared.store_fault.Damage.{Damage}
 use Rattle.mds_base.specs.declared.store_fault.Damage.TheVariants.{Spelling, Sum, Head}

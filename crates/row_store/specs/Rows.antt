@@ -1,5 +1,5 @@
 -- Rows that outlive memory: what changes make of a map, and which map tables stand for.
-use Rattle.std.specs.Prelude.{ℕ, List, [], ◌∷◌, Option, None, Some}
+use Rattle.std.specs.Prelude.{List, [], ◌∷◌, Option, None, Some}
 use Rattle.std.specs.List.{AllByRecursion}
 use Rattle.std.specs.FinMap as map
 use Rattle.mds_base.specs.RowKeys.{RowMap}

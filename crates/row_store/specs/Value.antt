@@ -1,5 +1,5 @@
 -- The value of a row store, and what its disk owes it.
-use Rattle.std.specs.Prelude.{◌≡◌, ◌<◌, ◌≤◌, ◌^◌, ℕ, List, [], ◌∷◌, Option, None, Some, IfSome, IsSome, map, Bool, true, false, ⊤}
+use Rattle.std.specs.Prelude.{◌≡◌, ◌≤◌, ℕ, List, [], ◌∷◌, Option, None, Some, IfSome, IsSome, map, Bool, true, false, ⊤}
 use Rattle.std.specs.List.{AllByRecursion}
 use Rattle.frame_pool.specs.Frames.{Frames, free_frames}
 use Rattle.gate_log.specs.LogState.{LogState, IsLogOf, IsReady as IsLogFile}

@@ -66,11 +66,7 @@ fn put(
 }
 
 // Says of a key again what was said before.
-fn take_back(
-    fresh: &mut BTreeMap<RowKey, Option<Attr>>,
-    key: &RowKey,
-    before: Option<Option<Attr>>,
-)
+fn take_back(fresh: &mut BTreeMap<RowKey, Option<Attr>>, key: &RowKey, before: Option<Option<Attr>>)
     requires { IsSome (tree.get row_key_cmp fresh.old key.now) }
     ensures { (q : RowKey) → tree.get row_key_cmp fresh.new q ≡ cond (is_at (row_key_cmp key.now) q) before (tree.get row_key_cmp fresh.old q) }
 {

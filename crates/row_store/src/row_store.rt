@@ -157,11 +157,7 @@ impl RowStore {
     }
 
     /// What the map has at a key. It takes no memory, and one frame is out at a time.
-    pub fn get<D: Disk>(
-        &mut self,
-        disk: &mut D,
-        key: &RowKey,
-    ) -> Result<Option<Attr>, StoreFault>
+    pub fn get<D: Disk>(&mut self, disk: &mut D, key: &RowKey) -> Result<Option<Attr>, StoreFault>
         requires { self.old.stopped ≡ false → IsReady self.old (D.seen disk.old) (D.sizes disk.old) (D.images disk.old) }
         ensures found { IfOk result (λ found. TellsAll (D.seen disk.old) → (kept : Option Kept) → (rows : RowMap) → Keeps self.old kept rows (reading (D.seen disk.old)) → found ≡ map.get rows key.now) }
         ensures kept { (kept : Option Kept) → (rows : RowMap) → Keeps self.old kept rows (reading (D.seen disk.old)) → Keeps self.new kept rows (reading (D.seen disk.new)) }

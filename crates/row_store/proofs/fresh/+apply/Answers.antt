@@ -1,7 +1,6 @@
-use Rattle.std.proofs.Common.{◌≡◌, ◌∙◌, sym, subst, List, Option}
+use Rattle.std.proofs.Common.{◌∙◌, sym, subst, Option}
 use Rattle.std.specs.Prelude.{IfSome}
 use Rattle.mds_base.specs.declared.attr.Attr.{Attr}
-use Rattle.row_store.specs.declared.change.Change.{Change}
 use Rattle.row_store.specs.Rows.{AreMarked}
 use Rattle.sorted_table.specs.TableRows.{IsMarked}
 use Rattle.row_store.proofs.Firsts.{cons_of, rest_of}
@@ -26,5 +25,5 @@ returns-in-Err-clause-err t c =
 pub returns-in-Err-clause-marked : goal.returns-in-Err-clause-marked
 returns-in-Err-clause-marked t c = λ old q.
     let same = taken_back c.args.fresh.now.entries c.apply.new.fresh.entries c.take_back.new.fresh.entries c.change-item.result.key c.change-item.result.attr c.in_ok-before-in-len1-up.before c.in_ok-before-in-len1-up.ensures.before
-        (λ k. c.in-Err.ensures.err k ∙ c.in_ok-before-in-len1-up.ensures.said k) c.take_back.ensures q in
+    (λ k. c.in-Err.ensures.err k ∙ c.in_ok-before-in-len1-up.ensures.said k) c.take_back.ensures q in
     subst (λ (found : Option (Option Attr)). IfSome found IsMarked) (sym same) (old q)

@@ -1,5 +1,5 @@
 use Rattle.std.proofs.Common.{rules, refl, Some, None}
-use Rattle.sorted_table.specs.declared.table_row.Held.TheVariants.{Absent, Tomb, Row}
+use Rattle.sorted_table.specs.declared.table_row.Held.TheVariants.{Tomb, Row}
 use Rattle.row_store.proofs.Firsts.{cons_of, none_of, rest_of, rest_ready}
 use Rattle.row_store.proofs.Maps.{Says, finds_none, finds_older, finds_first}
 use Rattle.row_store.proofs.Told.{same_seen, tables_on}
@@ -8,7 +8,7 @@ use Rattle.row_store.proofs.looks.+row_through.Goals as goal
 pub row_through-requires : goal.row_through-requires
 row_through-requires g t c =
     let older = rest_ready c.args.tables.now (g.D.Disk.seen c.look.new.disk) (g.D.Disk.sizes c.look.new.disk)
-        (tables_on c.args.tables.now (g.D.Disk.seen c.args.disk.now) (g.D.Disk.seen c.look.new.disk) (g.D.Disk.sizes c.args.disk.now) (g.D.Disk.sizes c.look.new.disk) c.in_ok-look-in-len1-up.ensures.call.unchanged c.requires.ready) in
+    (tables_on c.args.tables.now (g.D.Disk.seen c.args.disk.now) (g.D.Disk.seen c.look.new.disk) (g.D.Disk.sizes c.args.disk.now) (g.D.Disk.sizes c.look.new.disk) c.in_ok-look-in-len1-up.ensures.call.unchanged c.requires.ready) in
     search rules
 
 pub returns-in-empty-clause-found : goal.returns-in-empty-clause-found

@@ -1,4 +1,4 @@
-use Rattle.std.proofs.Common.{rules, ◌≡◌, sym, subst, get_or, List}
+use Rattle.std.proofs.Common.{rules, sym, subst, get_or, List}
 use Rattle.row_store.specs.Value.{AreOpen}
 use Rattle.sorted_table.specs.Tables.{TableState}
 use Rattle.row_store.proofs.Firsts.{cons_number, rest_of}
@@ -14,8 +14,8 @@ open_more-requires g t c =
     let call = c.in_ok-table-in-len1-up.ensures.call in
     let P : List TableState → Type 0 = λ tables. AreOpen tables (g.D.Disk.seen c.open_table.new.disk) (g.D.Disk.sizes c.open_table.new.disk) (g.D.Disk.images c.open_table.new.disk) in
     let opened : AreOpen c.push.new.self.items (g.D.Disk.seen c.open_table.new.disk) (g.D.Disk.sizes c.open_table.new.disk) (g.D.Disk.images c.open_table.new.disk) =
-        subst P (sym c.in_ok-push-in-len1-up.ensures.items) (open_more c.args.tables.now.items c.in_ok-table-in-len1-up.table seen' sizes' images'
-        (open_on c.args.tables.now.items (g.D.Disk.seen c.args.disk.now) seen' (g.D.Disk.sizes c.args.disk.now) sizes' (g.D.Disk.images c.args.disk.now) images' call.unchanged call.crash c.requires) c.in_ok-table-in-len1-up.ensures.table) in
+    subst P (sym c.in_ok-push-in-len1-up.ensures.items) (open_more c.args.tables.now.items c.in_ok-table-in-len1-up.table seen' sizes' images'
+    (open_on c.args.tables.now.items (g.D.Disk.seen c.args.disk.now) seen' (g.D.Disk.sizes c.args.disk.now) sizes' (g.D.Disk.images c.args.disk.now) images' call.unchanged call.crash c.requires) c.in_ok-table-in-len1-up.ensures.table) in
     search rules
 
 pub returns-in_ok-push-in-len1-up-clause-refused : goal.returns-in_ok-push-in-len1-up-clause-refused

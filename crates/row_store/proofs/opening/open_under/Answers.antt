@@ -25,9 +25,9 @@ returns-in_err-log-clause-refused g c =
     let first_call = c.in_ok-see_state.ensures.call in
     let next_call = c.in_ok-tables.ensures.call in
     let same = same_seen (g.D.Disk.seen c.args.disk.now) (g.D.Disk.seen c.open_tables.new.disk) (g.D.Disk.sizes c.args.disk.now) (g.D.Disk.sizes c.open_tables.new.disk)
-        (unchanged_on (g.D.Disk.seen c.args.disk.now) (g.D.Disk.seen c.see_state.new.disk) (g.D.Disk.seen c.open_tables.new.disk) (g.D.Disk.sizes c.args.disk.now) (g.D.Disk.sizes c.see_state.new.disk) (g.D.Disk.sizes c.open_tables.new.disk) first_call.unchanged next_call.unchanged) in
+    (unchanged_on (g.D.Disk.seen c.args.disk.now) (g.D.Disk.seen c.see_state.new.disk) (g.D.Disk.seen c.open_tables.new.disk) (g.D.Disk.sizes c.args.disk.now) (g.D.Disk.sizes c.see_state.new.disk) (g.D.Disk.sizes c.open_tables.new.disk) first_call.unchanged next_call.unchanged) in
     let there = state_on c.args.root.now.state (g.D.Disk.seen c.see_state.new.disk) (g.D.Disk.seen c.open_tables.new.disk) (g.D.Disk.sizes c.see_state.new.disk) (g.D.Disk.sizes c.open_tables.new.disk) (g.D.Disk.images c.see_state.new.disk) (g.D.Disk.images c.open_tables.new.disk)
-        next_call.unchanged next_call.crash c.in_ok-see_state.ensures.state in
+    next_call.unchanged next_call.crash c.in_ok-see_state.ensures.state in
     let P : ℕ → ℕ → Damage → Type 0 = λ file place wrong. TellsAll (g.D.Disk.seen c.args.disk.now) → IsBadUnder c.args.root.now file place wrong (reading (g.D.Disk.seen c.args.disk.now)) in
     let Q : ℕ → ℕ → Damage → Type 0 = bad_of c.args.root.now.log_file IsLogBad (g.D.Disk.seen c.open_tables.new.disk c.args.root.now.log_file) in
     err_at c.from_residual-in_err-log.result c.in_err-log.field-0.0 (IsRefusal P) c.from_residual-in_err-log.ensures.1

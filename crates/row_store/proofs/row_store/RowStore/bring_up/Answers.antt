@@ -1,8 +1,7 @@
-use Rattle.std.proofs.Common.{rules, arith, ◌≡◌, ◌∙◌, ◌≤◌, sym, ap, subst, ℕ, List, Option, Result, Ok, Err}
+use Rattle.std.proofs.Common.{rules, arith, ◌∙◌, ◌≤◌, sym, ap, subst, ℕ, Option, Result, Ok, Err}
 use Rattle.std.proofs.lemmas.Grind.{common_steps}
 use Rattle.frame_pool.specs.Frames.{free_frames}
 use Rattle.mds_base.specs.declared.store_fault.Damage.{Damage}
-use Rattle.mds_base.specs.declared.store_fault.StoreFault.{StoreFault}
 use Rattle.mds_out.specs.Known.{OnTold}
 use Rattle.root_slots.specs.declared.root.Root.{Root}
 use Rattle.root_slots.specs.declared.root_slots.RootFault.{RootFault}

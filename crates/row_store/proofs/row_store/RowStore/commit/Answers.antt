@@ -1,6 +1,5 @@
-use Rattle.std.proofs.Common.{◌≡◌, ◌∙◌, sym, ap, refl, false, Some, Option, List}
+use Rattle.std.proofs.Common.{◌∙◌, sym, ap, refl, Some}
 use Rattle.mds_base.specs.RowKeys.{RowMap}
-use Rattle.mds_out.specs.Disk.{Image}
 use Rattle.row_store.specs.Rows.{changed_all}
 use Rattle.row_store.specs.Store.{Kept, TellsAll, reading, with_body, base_of}
 use Rattle.row_store.specs.Value.{Keeps}
@@ -27,9 +26,9 @@ returns-in_err-apply-clause-refused g c =
 pub returns-clause-kept : goal.returns-clause-kept
 returns-clause-kept g c =
     let P : Type 0 = TellsAll (g.D.Disk.seen c.args.disk.now) → (kept : Kept) → (rows : RowMap) → Keeps (record c.args.self.now { fresh = c.apply.new.fresh }) (Some kept) rows (reading (g.D.Disk.seen c.args.disk.now))
-        → Keeps c.append.new.self (Some (with_body kept c.args.piece.now)) rows (reading (g.D.Disk.seen c.append.new.disk)) in
+    → Keeps c.append.new.self (Some (with_body kept c.args.piece.now)) rows (reading (g.D.Disk.seen c.append.new.disk)) in
     let Q : Type 0 = TellsAll (g.D.Disk.seen c.args.disk.now) → (kept : Kept) → (rows : RowMap) → Keeps c.args.self.now (Some kept) rows (reading (g.D.Disk.seen c.args.disk.now))
-        → Keeps c.append.new.self (Some (with_body kept c.args.piece.now)) (changed_all rows c.args.changes.now) (reading (g.D.Disk.seen c.append.new.disk)) in
+    → Keeps c.append.new.self (Some (with_body kept c.args.piece.now)) (changed_all rows c.args.changes.now) (reading (g.D.Disk.seen c.append.new.disk)) in
     ok_more c.append.result P Q (λ gives tells kept rows keeps. gives tells kept (changed_all rows c.args.changes.now)
     (record { by = keeps.by; rows_are = ap (λ (m : RowMap). changed_all m c.args.changes.now) keeps.rows_are ∙ sym (c.in_ok-apply.ensures.ok kept.base) })) c.append.ensures.kept
 

@@ -1,4 +1,4 @@
-use Rattle.std.proofs.Common.{◌≡◌, ◌∙◌, sym, ap, subst, List, Option}
+use Rattle.std.proofs.Common.{◌∙◌, sym, ap, subst, List, Option}
 use Rattle.mds_base.specs.declared.attr.Attr.{Attr}
 use Rattle.row_store.specs.declared.row_store.RowStore.{RowStore}
 use Rattle.row_store.specs.Store.{reading}

@@ -1,4 +1,4 @@
-use Rattle.std.proofs.Common.{◌≡◌, ◌∙◌, sym, subst, refl, false, List, ℕ, Option, Some, arith}
+use Rattle.std.proofs.Common.{◌≡◌, sym, subst, refl, false, List, ℕ, Option, Some, arith}
 use Rattle.mds_out.specs.Known.{OnTold}
 use Rattle.root_slots.specs.Slot.{root_in}
 use Rattle.row_store.proofs.Appends.{slots_on}
