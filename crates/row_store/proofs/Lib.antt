@@ -4,4 +4,5 @@ pub mod Maps
 pub mod Told
 pub mod Keeping
 pub mod Appends
+pub mod Bodies
 pub mod Opens

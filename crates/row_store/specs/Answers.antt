@@ -87,6 +87,15 @@ IsLookAnswer tells (Err (Damaged file place wrong)) = tells → ⊥
 IsLookAnswer tells (Err Room) = ⊥
 IsLookAnswer tells (Err OutOfMemory) = ⊥
 
+-- a call that reads what takes memory: no want of room, and no damage where the disk tells its files
+abbrev pub IsCopyAnswer : {T : Type 0} → Type 0 → Result T StoreFault → Type 0
+IsCopyAnswer tells (Ok _) = ⊤
+IsCopyAnswer tells (Err Device) = ⊤
+IsCopyAnswer tells (Err Stopped) = ⊥
+IsCopyAnswer tells (Err (Damaged file place wrong)) = tells → ⊥
+IsCopyAnswer tells (Err Room) = ⊥
+IsCopyAnswer tells (Err OutOfMemory) = ⊤
+
 -- a refusal is the disk's, or want of memory
 abbrev pub IsMemoryAnswer : {T : Type 0} → Result T StoreFault → Type 0
 IsMemoryAnswer (Ok _) = ⊤

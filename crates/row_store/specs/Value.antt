@@ -1,7 +1,9 @@
 -- The value of a row store, and what its disk owes it.
-use Rattle.std.specs.Prelude.{◌≡◌, ◌≤◌, ℕ, List, [], ◌∷◌, Option, None, Some, IfSome, IsSome, map, Bool, true, false, ⊤}
+use Rattle.std.specs.Prelude.{◌≡◌, ◌<◌, ◌≤◌, ℕ, List, [], ◌∷◌, ◌++◌, Option, None, Some, IfSome, IsSome, map, Bool, true, false, ⊤}
 use Rattle.std.specs.List.{AllByRecursion}
 use Rattle.frame_pool.specs.Frames.{Frames, free_frames}
+use Rattle.gate_log.specs.Calls.{IsSomeGate}
+use Rattle.gate_log.specs.Log.{gate_place}
 use Rattle.gate_log.specs.LogState.{LogState, IsLogOf, IsReady as IsLogFile}
 use Rattle.mds_base.specs.declared.row_key.RowKey.{RowKey}
 use Rattle.mds_base.specs.declared.store_fault.StoreFault.{StoreFault}
@@ -122,6 +124,27 @@ length_of (Some force) = force.log.length
 abbrev pub StaysReady : RowStore → RowStore → Type 0
 StaysReady old new = (new.pool ≡ old.pool) × (new.slots ≡ old.slots) × (new.force ≡ old.force) × (new.tables.items ≡ old.tables.items)
     × (((key : RowKey) → IfSome (tree.get row_key_cmp old.fresh key) IsMarked) → (key : RowKey) → IfSome (tree.get row_key_cmp new.fresh key) IsMarked)
+
+-- the file of the state in force
+abbrev pub state_of : Option InForce → ℕ
+state_of None = 0
+state_of (Some force) = force.root.state
+
+-- a gate of the log in force stands at this place
+abbrev pub IsGate : Option InForce → ℕ → Contents → Type 0
+IsGate None at seen = ⊥
+IsGate (Some force) at seen = (at < force.log.length) × OnTold (seen force.log.file) (IsSomeGate force.log at)
+
+-- these bodies, the first ones that are kept, were read up to the gate at this place
+pub record IsReadUpTo (kept : Kept) (place : ℕ) (read : List (List ℕ)) : Type 0 where
+  pub after : List (List ℕ)
+  pub bodies : kept.bodies ≡ read ++ after
+  pub place_is : place ≡ gate_place read
+
+-- At the end all bodies were read, else one more was read up to the next gate.
+abbrev pub ReadsOn : Kept → List (List ℕ) → Option ℕ → List ℕ → Type 0
+ReadsOn kept read None into = kept.bodies ≡ read
+ReadsOn kept read (Some next) into = IsReadUpTo kept next (read ++ into ∷ [])
 
 -- whether a store has stopped once this was answered
 abbrev pub stops_by : StoreFault → Bool → Bool

@@ -1,6 +1,7 @@
 //! Opening what a root names: the state is looked at, the tables and the log are opened.
-ghost use Rattle.std.specs.Prelude.{◌≡◌, ◌≤◌, ◌++◌, map, IfOk, IfErr, OnOk};
+ghost use Rattle.std.specs.Prelude.{◌≡◌, ◌<◌, ◌≤◌, ◌^◌, ◌++◌, map, IfOk, IfErr, OnOk};
 ghost use Rattle.frame_pool.specs.Frames.{free_frames};
+ghost use Rattle.gate_log.specs.Calls.{IsSomeGate};
 ghost use Rattle.mds_out.specs.Known.{OnTold};
 ghost use Rattle.row_store.specs.Answers.{IsStoreReading};
 ghost use Rattle.row_store.specs.Damages.{IsRefusal, IsStateBad, IsTableBad, IsFirstBad, IsLogBad, IsBadUnder};
@@ -32,6 +33,8 @@ pub(crate) fn open_with<D: Disk>(
     ensures tables { IfOk result (λ x. AreOpen x.0.items (D.seen disk.new) (D.sizes disk.new) (D.images disk.new)) }
     ensures log_file { IfOk result (λ x. x.1.file ≡ root.now.log_file) }
     ensures log { IfOk result (λ x. IsLogReady x.1 (D.seen disk.new) (D.sizes disk.new) (D.images disk.new)) }
+    ensures short { IfOk result (λ x. x.1.length < 2 ^ 63) }
+    ensures gate { IfOk result (λ x. OnTold (D.seen disk.new x.1.file) (IsSomeGate x.1 0)) }
     ensures refused { IfErr result (IsRefusal (λ file place damage. TellsAll (D.seen disk.old) → IsBadUnder root.now file place damage (reading (D.seen disk.old)))) }
     ensures frames { free_frames pool.new ≡ free_frames pool.old }
     ensures call { IsStoreReading D.seen D.sizes D.images D.moment D.images_since D.faults D.lasts D.fails disk.old disk.new result }
@@ -56,6 +59,8 @@ fn open_under<D: Disk>(
     ensures tables { IfOk result (λ x. AreOpen x.0.items (D.seen disk.new) (D.sizes disk.new) (D.images disk.new)) }
     ensures log_file { IfOk result (λ x. x.1.file ≡ root.now.log_file) }
     ensures log { IfOk result (λ x. IsLogReady x.1 (D.seen disk.new) (D.sizes disk.new) (D.images disk.new)) }
+    ensures short { IfOk result (λ x. x.1.length < 2 ^ 63) }
+    ensures gate { IfOk result (λ x. OnTold (D.seen disk.new x.1.file) (IsSomeGate x.1 0)) }
     ensures refused { IfErr result (IsRefusal (λ file place damage. TellsAll (D.seen disk.old) → IsBadUnder root.now file place damage (reading (D.seen disk.old)))) }
     ensures frame { frame.new.number ≡ frame.old.number }
     ensures call { IsStoreReading D.seen D.sizes D.images D.moment D.images_since D.faults D.lasts D.fails disk.old disk.new result }
@@ -143,6 +148,8 @@ fn open_table<D: Disk>(
 fn open_log<D: Disk>(disk: &mut D, file: u32) -> Result<GateLog, StoreFault>
     ensures file { IfOk result (λ log. log.file ≡ file) }
     ensures log { IfOk result (λ log. IsLogReady log (D.seen disk.new) (D.sizes disk.new) (D.images disk.new)) }
+    ensures short { IfOk result (λ log. log.length < 2 ^ 63) }
+    ensures gate { IfOk result (λ log. OnTold (D.seen disk.new log.file) (IsSomeGate log 0)) }
     ensures refused { IfErr result (IsRefusal (λ bad place damage. (bad ≡ file) × OnTold (D.seen disk.old file) (IsLogBad place damage))) }
     ensures call { IsStoreReading D.seen D.sizes D.images D.moment D.images_since D.faults D.lasts D.fails disk.old disk.new result }
 {

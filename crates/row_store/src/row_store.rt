@@ -9,17 +9,18 @@ ghost use Rattle.mds_out.specs.Known.{OnTold};
 ghost use Rattle.root_slots.specs.Root.{is_root};
 ghost use Rattle.root_slots.specs.Slot.{root_in};
 ghost use Rattle.root_slots.specs.Slots.{IsReady as AreSlotsReady};
-ghost use Rattle.row_store.specs.Answers.{IsStoreReading, IsStoreChanging, IsLookAnswer, IsMemoryAnswer};
+ghost use Rattle.row_store.specs.Answers.{IsStoreReading, IsStoreChanging, IsLookAnswer, IsCopyAnswer, IsMemoryAnswer};
 ghost use Rattle.row_store.specs.Damages.{IsRefusal, IsBad, IsBadUnder};
 ghost use Rattle.row_store.specs.Rows.{changed_all, AreMarked};
 ghost use Rattle.row_store.specs.Store.{Kept, StandsFor, TellsAll, reading, base_of, with_body, IsCommitting};
-ghost use Rattle.row_store.specs.Value.{IsReady, Keeps, IsNew, HasRoot, length_of, StaysReady, KeptStands, IsNewStore, stops_by};
+ghost use Rattle.row_store.specs.Value.{IsReady, Keeps, IsNew, HasRoot, IsGate, IsReadUpTo, ReadsOn, length_of, state_of, StaysReady, KeptStands, IsNewStore, stops_by};
 
 use crate::change::Change;
 use crate::faults::{of_log, of_root};
 use crate::fresh::{apply, last_said};
 use crate::looks::row_in;
 use crate::opening::open_with;
+use crate::states::read_state;
 use frame_pool::Pool;
 use gate_log::{GateLog, Piece};
 use mds_base::{Attr, RowKey, StoreFault};
@@ -64,6 +65,8 @@ impl RowStore {
         ensures running { IfOk result (λ store. store.stopped ≡ false) }
         ensures ready { IfOk result (λ store. IsReady store (D.seen disk.new) (D.sizes disk.new) (D.images disk.new)) }
         ensures kept { IfOk result (λ store. TellsAll (D.seen disk.new) → (kept : Option Kept) × Keeps store kept (base_of kept) (reading (D.seen disk.new))) }
+        ensures short { IfOk result (λ store. length_of store.force < 2 ^ 63) }
+        ensures gate { IfOk result (λ store. HasRoot store → IsGate store.force 0 (D.seen disk.new)) }
         ensures refused { IfErr result (IsRefusal (λ file place damage. TellsAll (D.seen disk.old) → IsBad file place damage (reading (D.seen disk.old)))) }
         ensures call { IsStoreReading D.seen D.sizes D.images D.moment D.images_since D.faults D.lasts D.fails disk.old disk.new result }
     {
@@ -105,6 +108,8 @@ impl RowStore {
         ensures running { IfOk result (λ store. store.stopped ≡ false) }
         ensures ready { IfOk result (λ store. IsReady store (D.seen disk.new) (D.sizes disk.new) (D.images disk.new)) }
         ensures kept { IfOk result (λ store. TellsAll (D.seen disk.new) → (kept : Option Kept) × Keeps store kept (base_of kept) (reading (D.seen disk.new))) }
+        ensures short { IfOk result (λ store. length_of store.force < 2 ^ 63) }
+        ensures gate { IfOk result (λ store. HasRoot store → IsGate store.force 0 (D.seen disk.new)) }
         ensures refused { IfErr result (IsRefusal (λ file place damage. TellsAll (D.seen disk.old) → IsBadUnder root file place damage (reading (D.seen disk.old)))) }
         ensures call { IsStoreReading D.seen D.sizes D.images D.moment D.images_since D.faults D.lasts D.fails disk.old disk.new result }
     {
@@ -140,6 +145,92 @@ impl RowStore {
             unreachable!()
         };
         force.log.length()
+    }
+
+    /// Puts the state in force, without its sum, into `into`, in place of what was there. The store is not new. After a
+    /// refusal `into` holds any bytes.
+    pub fn state_bytes<D: Disk>(
+        &mut self,
+        disk: &mut D,
+        into: &mut Vec<u8>,
+    ) -> Result<(), StoreFault>
+        requires root { HasRoot self.old }
+        requires ready { self.old.stopped ≡ false → IsReady self.old (D.seen disk.old) (D.sizes disk.old) (D.images disk.old) }
+        ensures state { OnOk result (TellsAll (D.seen disk.old) → (kept : Kept) → (rows : RowMap) → Keeps self.old (Some kept) rows (reading (D.seen disk.old)) → into.new.items ≡ kept.state) }
+        ensures refused { self.old.stopped ≡ false → IfErr result (IsRefusal (λ file place damage. TellsAll (D.seen disk.old) → (kept : Kept) → (rows : RowMap) → Keeps self.old (Some kept) rows (reading (D.seen disk.old)) → ⊥)) }
+        ensures kept { (kept : Option Kept) → (rows : RowMap) → Keeps self.old kept rows (reading (D.seen disk.old)) → Keeps self.new kept rows (reading (D.seen disk.new)) }
+        ensures ready { self.new.stopped ≡ false → IsReady self.new (D.seen disk.new) (D.sizes disk.new) (D.images disk.new) }
+        ensures force { self.new.force ≡ self.old.force }
+        ensures stopped { self.old.stopped ≡ true → (result ≡ Err StoreFault.Stopped) × (disk.new ≡ disk.old) }
+        ensures stops { IsErrOf result StoreFault.Device → self.new.stopped ≡ true }
+        ensures runs { (IsErrOf result StoreFault.Device → ⊥) → self.new.stopped ≡ self.old.stopped }
+        ensures call { IsStoreReading D.seen D.sizes D.images D.moment D.images_since D.faults D.lasts D.fails disk.old disk.new result }
+    {
+        if self.stopped {
+            return Err(StoreFault::Stopped);
+        }
+        let file = self.state_file();
+        match read_state(disk, file, into) {
+            Ok(()) => Ok(()),
+            Err(fault) => {
+                self.stop_at(&fault);
+                Err(fault)
+            }
+        }
+    }
+
+    fn state_file(&self) -> u32
+        requires { HasRoot self.now }
+        ensures { result ≡ state_of self.now.force }
+    {
+        let Some(force) = &self.force else {
+            unreachable!()
+        };
+        force.root.state
+    }
+
+    /// Puts the body at a gate of the log in force into `into`, in place of what was there, and answers the place of the
+    /// next gate; `None` exactly at the end. The place is 0 or an earlier answer. The store is not new. Where there is no
+    /// memory for the body nothing has changed.
+    pub fn body<D: Disk>(
+        &mut self,
+        disk: &mut D,
+        at: u64,
+        into: &mut Vec<u8>,
+    ) -> Result<Option<u64>, StoreFault>
+        requires short { length_of self.old.force < 2 ^ 63 }
+        requires gate { IsGate self.old.force at (D.seen disk.old) }
+        requires ready { self.old.stopped ≡ false → IsReady self.old (D.seen disk.old) (D.sizes disk.old) (D.images disk.old) }
+        ensures read { IfOk result (λ next. TellsAll (D.seen disk.old) → (kept : Kept) → (rows : RowMap) → Keeps self.old (Some kept) rows (reading (D.seen disk.old)) → (read : List (List ℕ)) → IsReadUpTo kept at read → ReadsOn kept read next into.new.items) }
+        ensures gate { IfOk result (λ next. IfSome next (λ place. IsGate self.new.force place (D.seen disk.new))) }
+        ensures onward { IfOk result (λ next. IfSome next (λ place. at < place)) }
+        ensures length { OnOk result (length_of self.new.force ≡ length_of self.old.force) }
+        ensures kept { self.new.stopped ≡ false → (kept : Option Kept) → (rows : RowMap) → Keeps self.old kept rows (reading (D.seen disk.old)) → Keeps self.new kept rows (reading (D.seen disk.new)) }
+        ensures ready { self.new.stopped ≡ false → IsReady self.new (D.seen disk.new) (D.sizes disk.new) (D.images disk.new) }
+        ensures root { HasRoot self.new }
+        ensures answer { self.old.stopped ≡ false → IsCopyAnswer (TellsAll (D.seen disk.old)) result }
+        ensures stopped { self.old.stopped ≡ true → (result ≡ Err StoreFault.Stopped) × (disk.new ≡ disk.old) }
+        ensures stops { IsErrOf result StoreFault.Device → self.new.stopped ≡ true }
+        ensures runs { (IsErrOf result StoreFault.Device → ⊥) → self.new.stopped ≡ self.old.stopped }
+        ensures call { IsStoreReading D.seen D.sizes D.images D.moment D.images_since D.faults D.lasts D.fails disk.old disk.new result }
+    {
+        if self.stopped {
+            return Err(StoreFault::Stopped);
+        }
+        let Some(InForce { root, mut log }) = self.force.take() else {
+            unreachable!()
+        };
+        let file = root.log_file;
+        let read = log.replay(disk, at, into);
+        self.force = Some(InForce { root, log });
+        match read {
+            Ok(next) => Ok(next),
+            Err(fault) => {
+                let fault = of_log(file, fault);
+                self.stop_at(&fault);
+                Err(fault)
+            }
+        }
     }
 
     /// Takes the changes of a body that the log already holds. It makes no call of the disk. Where there is no memory for

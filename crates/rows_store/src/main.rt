@@ -3,6 +3,7 @@
 #![tactic(auto)]
 
 mod roots;
+mod store;
 mod tables;
 
 use row_words::{Answer, RowFault, Table, Words, print};
@@ -20,6 +21,7 @@ impl Table for Calls {
     fn answer(alloc: Global, mut words: Words<'_>) -> Answer {
         match words.word()? {
             "root_slots" => roots::answer(alloc, words),
+            "row_store" => store::answer(alloc, words),
             "sorted_table" => tables::answer(alloc, words),
             _ => Err(RowFault::NotARow),
         }

@@ -44,7 +44,7 @@ fn run(alloc: Global, mut words: Words<'_>) -> Answer {
 }
 
 /// `root` and `change NUMBER STATE LOG COUNT TABLE..`, which reads the root first, and the actions of a disk.
-fn act_on<D: Disk>(alloc: Global, disk: &mut Fuse<D>, words: Words<'_>) -> Answer {
+pub(crate) fn act_on<D: Disk>(alloc: Global, disk: &mut Fuse<D>, words: Words<'_>) -> Answer {
     let mut rest = words;
     match rest.word()? {
         "root" => in_force(alloc, disk),
