@@ -27,3 +27,6 @@ returns-in-Ok-clause-kept g c =
     kept_opened store (record { root = c.args.root; log = c.in-Ok.log }) (g.D.Disk.seen new) (g.D.Disk.sizes new) (g.D.Disk.images new) refl (subst P (sym (call.unchanged.bytes 0)) c.requires.in_force)
     (slots_on c.args.slots (g.D.Disk.seen old) (g.D.Disk.seen new) (g.D.Disk.sizes old) (g.D.Disk.sizes new) (g.D.Disk.images old) (g.D.Disk.images new) (call.unchanged.bytes 0) (call.unchanged.lengths 0) (λ crashed now. (crashed, call.crash crashed now, refl)) c.requires.slots)
     c.in-Ok.ensures.state c.in-Ok.ensures.files c.in-Ok.ensures.tables c.in-Ok.ensures.log_file c.in-Ok.ensures.log c.new.ensures.empty
+
+pub returns-in-Ok-clause-gate : goal.returns-in-Ok-clause-gate
+returns-in-Ok-clause-gate g c = λ root. (omega (arith, c.in-Ok.ensures.log.ready.some), c.in-Ok.ensures.gate)
