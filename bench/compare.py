@@ -1,4 +1,4 @@
-"""Prints what the program takes beside others that do the same: compare.py PROGRAM PLAIN PEER FOLDER RUNS."""
+"""Prints what the program takes beside others that do the same: compare.py PROGRAM PLAIN PEER PARTS FOLDER RUNS."""
 import ctypes
 import filecmp
 import os
@@ -16,6 +16,19 @@ LONG_RUNS = 5
 # The aims: at most so many times the time and the memory of the peer, and at most so many times the time for ten times
 # as many calls.
 PEER, DECADE = 1.5, 12
+
+# The aim for a part: at the greatest size a round takes at most so many times the time, by the size if it goes by it.
+STEADY = 2
+
+# A work of `bench_parts`: its name, its sizes, how many rounds there are (of a round that goes by the size, how many
+# times that size), whether a round goes by the size, and what it is to show.
+Work = namedtuple("Work", "name sizes rounds by_size shows")
+WORKS = (
+    Work("sweep", (10**3, 10**4, 10**5), 2 * 10**5, False, "a sweep costs what ended and not what is held"),
+    Work("answer", (256, 2560, 25600), 4 * 10**5, False, "a look-up costs the same in any cache and takes no memory"),
+    Work("half", (10**3, 10**4, 10**5), 2 * 10**6, True, "a half is walked once"),
+    Work("beside", (10**3, 10**4, 10**5), 2000, False, "rows of other partitions cost the walk of a half nothing"),
+    Work("tree", (256, 1024, 4096), 10**5, True, "a tree is read in time linear in its text"))
 
 # A program's name, its command, what makes its script, and what is said of its text beside that of the first program.
 Program = namedtuple("Program", "name words lines verdict")
@@ -83,6 +96,33 @@ def table(title, programs, runs, folder):
     return found
 
 
+def works(parts, runs, folder):
+    """Prints what a round of each work takes at its sizes: what the rounds take is what a run with them takes more than
+    one without them, so what it costs to make the size is left out."""
+    print("\nParts of a server and of a client: a round of work at a size, whose making is left out\n\n"
+          "work       size   rounds  microseconds  MB more")
+    for work in WORKS:
+        costs = []
+        for size in work.sizes:
+            rounds = work.rounds // size if work.by_size else work.rounds
+            idle, peak_before = least_of_work(parts, f"{work.name} {size} 0", runs, folder)
+            seconds, peak = least_of_work(parts, f"{work.name} {size} {rounds}", runs, folder)
+            costs.append((seconds - idle) / rounds / (size if work.by_size else 1))
+            print(f"{work.name:<7} {size:>7} {rounds:>8} {(seconds - idle) / rounds * 10**6:>13.2f}"
+                  f" {max(peak - peak_before, 0):>8.1f}")
+        grown, by_size = costs[-1] / costs[0], ", by the size" if work.by_size else ""
+        print(f"{work.shows}: {grown:.2f} times{by_size}; aim at most {STEADY}, {met(grown <= STEADY)}")
+    print(f"\nThe least of {runs} runs of each, at load {os.getloadavg()[0]:.1f}.")
+
+
+def least_of_work(parts, line, runs, folder):
+    """The least time and memory that `bench_parts` took of several runs for a line."""
+    script, text = os.path.join(folder, "work"), os.path.join(folder, "count")
+    with open(script, "w") as file:
+        file.write(f"{line}\n")
+    return [min(found) for found in zip(*(measure([parts], script, text) for _ in range(runs)))]
+
+
 def met(is_met):
     return "met" if is_met else "MISSED"
 
@@ -101,7 +141,7 @@ def all_rows(_ours, theirs, size):
 
 
 def main():
-    program, plain, peer, folder, runs = sys.argv[1:]
+    program, plain, peer, parts, folder, runs = sys.argv[1:]
     ctypes.CDLL(None).prctl(36, 1, 0, 0, 0)  # PR_SET_CHILD_SUBREAPER: orphans come to this process
     # SQLite is driven by its own command line, which reads each insert as SQL and keeps table and journal in memory.
     table("Creates through the log: distinct names, one client and one server, at most 8000 names a directory", [
@@ -119,6 +159,7 @@ def main():
     for what, place in (("time", 0), ("memory", 1)) if len(programs) > 1 else ():
         most = max(found[size, "giga"][0][place] / found[size, "giga-peer"][0][place] for size in SIZES)
         print(f"At most {most:.2f} times the {what} of giga-peer; aim at most {PEER}, {met(most <= PEER)}")
+    works(parts, int(runs), folder)
 
 
 main()

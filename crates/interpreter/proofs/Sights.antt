@@ -8,11 +8,11 @@ use Rattle.client_core.specs.declared.client.Pending.{Pending}
 use Rattle.client_core.specs.Clients.{ClientV}
 use Rattle.node_core.specs.Nodes.{has_numbers}
 use Rattle.node_store.specs.Store.{Store}
+use Rattle.node_core.specs.Rules.{is_served}
 use Rattle.records.specs.declared.msg.Msg.{Msg}
 use Rattle.records.specs.Messages.{server_of_msg}
 use Rattle.script.specs.declared.line.Line.{Line}
 use Rattle.script.specs.declared.line.Line.TheVariants as lines
-use Rattle.script.specs.Stages.{has_come}
 use Rattle.world.specs.declared.state.ServerState.{ServerState}
 use Rattle.world.specs.declared.state.ClientState.{ClientState}
 use Rattle.world.specs.Events.{seat_at, is_one, is_open, is_up, can_serve, is_for_server, is_for_client}
@@ -21,8 +21,8 @@ use Rattle.simulation.specs.Runs.{RunV, is_named}
 use Rattle.simulation.specs.Shows.{SimulationV, Shows, IsServerAt, IsServer, IsDue, client_at, is_idle, is_busy, server_for, store_is_up, up_has_numbers, store_has_numbers, has_numbers_at}
 use Rattle.simulation.specs.Shows as shown
 use Rattle.simulation.proofs.Seats.{clients_of}
-use Rattle.interpreter.specs.Steps.{allows, may_stand}
-use Rattle.interpreter.specs.Story.{seat_is_idle, seat_is_busy, taken_by, up_at, is_due, is_allowed, stands_at}
+use Rattle.interpreter.specs.Steps.{allows}
+use Rattle.interpreter.specs.Story.{seat_is_idle, seat_is_busy, taken_by, up_at, is_due, is_allowed}
 
 -- ---- clients
 
@@ -159,30 +159,26 @@ module _ {X : Type 0} (seen : X → Contents) (images : X → Image → Type 0) 
   pub seen_numbers : (server : ℕ) → shown.is_up sim server ≡ true → can_serve (slice_get run.trace.world.servers server) ≡ has_numbers_at sim server
   seen_numbers server up = numbers_both seen images (slice_get sim.stores server) (slice_get run.trace.world.servers server) (servers_both server) (servers_stand server) up
 
-  -- a line may stand on the simulation where it is in the world
-  stands_seen : (line : Line) → may_stand sim line ≡ stands_at run.trace.world line
-  stands_seen lines.Skipped = refl
-  stands_seen (lines.Call client call) = seen_idle client
-  stands_seen (lines.Issue client call) = seen_idle client
-  stands_seen (lines.Retry client) = seen_busy client
-  stands_seen (lines.Deliver place) = ap (λ m. is_some (server_for m)) (seen_msg place)
-  stands_seen (lines.Take client place) = ap (is_for_client client) (seen_msg place)
-  stands_seen lines.Settle = refl
-  stands_seen (lines.Tick by) = refl
-  stands_seen (lines.Fuse server calls) = refl
-  stands_seen (lines.Stop server) = sym (seen_up server)
-  stands_seen (lines.Restart server) = ap not (sym (seen_up server))
-  stands_seen (lines.Batch server places) = refl
-  stands_seen (lines.Remind server) = refl
-  stands_seen (lines.Walk client path) = refl
-  stands_seen (lines.Bulk client dir name json) = refl
-  stands_seen (lines.Rmdir client dir name) = refl
-  stands_seen (lines.Feed server) = refl
-  stands_seen (lines.Promote server) = refl
-
-  -- and is allowed there where it is in the world
+  -- a line is allowed on the simulation where it is in the world
   pub allows_seen : (line : Line) → allows sim line ≡ is_allowed run.trace.world line
-  allows_seen line = ap (λ b. has_come line && b) (stands_seen line)
+  allows_seen lines.Skipped = refl
+  allows_seen (lines.Call client call) = ap (λ idle. idle && is_served call) (seen_idle client)
+  allows_seen (lines.Issue client call) = ap (λ idle. idle && is_served call) (seen_idle client)
+  allows_seen (lines.Retry client) = seen_busy client
+  allows_seen (lines.Deliver place) = ap (λ m. is_some (server_for m)) (seen_msg place)
+  allows_seen (lines.Take client place) = ap (is_for_client client) (seen_msg place)
+  allows_seen lines.Settle = refl
+  allows_seen (lines.Tick by) = refl
+  allows_seen (lines.Fuse server calls) = refl
+  allows_seen (lines.Stop server) = sym (seen_up server)
+  allows_seen (lines.Restart server) = ap not (sym (seen_up server))
+  allows_seen (lines.Batch server places) = refl
+  allows_seen (lines.Remind server) = refl
+  allows_seen (lines.Walk client path) = refl
+  allows_seen (lines.Bulk client dir name json) = refl
+  allows_seen (lines.Rmdir client dir name) = refl
+  allows_seen (lines.Feed server) = refl
+  allows_seen (lines.Promote server) = refl
 
   -- what waits for a server that is up is due
   pub due_seen : (servers place : ℕ) → IsDue sim servers place → is_due run place ≡ true

@@ -7,9 +7,9 @@ use Rattle.mds_base.specs.declared.setup.Which.TheVariants as limits
 use Rattle.mds_base.specs.declared.store_fault.StoreFault.{StoreFault}
 use Rattle.mds_base.specs.declared.store_fault.StoreFault.TheVariants as faults
 use Rattle.mds_out.specs.Disk.{Image, Contents}
+use Rattle.node_core.specs.Rules.{is_served}
 use Rattle.script.specs.declared.line.Line.{Line}
 use Rattle.script.specs.declared.line.Line.TheVariants as lines
-use Rattle.script.specs.Stages.{has_come}
 use Rattle.simulation.specs.Calls.{RepliesTo, IsRequestAt}
 use Rattle.simulation.specs.Runs.{RunV, grown}
 use Rattle.simulation.specs.Shows.{SimulationV, Shows, StandNear, client_at, is_idle, is_busy, server_for}
@@ -23,24 +23,20 @@ use Rattle.interpreter.specs.declared.interpreter.Halt.TheVariants as halts
 use Rattle.interpreter.specs.EventText.{events_text}
 use Rattle.interpreter.specs.Story.{grown_by, all_may, IsDelivered, IsSentAgain, IsFollowed, sends}
 
--- whether a line may stand at its place, by what a simulation holds
-abbrev pub may_stand : {X : Type 0} → SimulationV X → Line → Bool
-may_stand sim lines.Skipped = true
-may_stand sim (lines.Call client call) = is_idle (client_at sim.clients client)
-may_stand sim (lines.Issue client call) = is_idle (client_at sim.clients client)
-may_stand sim (lines.Retry client) = is_busy (client_at sim.clients client)
-may_stand sim (lines.Deliver place) = is_some (server_for (slice_get sim.sent place))
-may_stand sim (lines.Take client place) = is_for_client client (slice_get sim.sent place)
-may_stand sim lines.Settle = true
-may_stand sim (lines.Tick by) = true
-may_stand sim (lines.Fuse server calls) = true
-may_stand sim (lines.Stop server) = shown.is_up sim server
-may_stand sim (lines.Restart server) = not (shown.is_up sim server)
-may_stand sim line = false
-
--- whether a line is allowed, by what a simulation holds
+-- whether a line is allowed at its place, by what a simulation holds
 abbrev pub allows : {X : Type 0} → SimulationV X → Line → Bool
-allows sim line = has_come line && may_stand sim line
+allows sim lines.Skipped = true
+allows sim (lines.Call client call) = is_idle (client_at sim.clients client) && is_served call
+allows sim (lines.Issue client call) = is_idle (client_at sim.clients client) && is_served call
+allows sim (lines.Retry client) = is_busy (client_at sim.clients client)
+allows sim (lines.Deliver place) = is_some (server_for (slice_get sim.sent place))
+allows sim (lines.Take client place) = is_for_client client (slice_get sim.sent place)
+allows sim lines.Settle = true
+allows sim (lines.Tick by) = true
+allows sim (lines.Fuse server calls) = true
+allows sim (lines.Stop server) = shown.is_up sim server
+allows sim (lines.Restart server) = not (shown.is_up sim server)
+allows sim line = false
 
 -- ---- what was carried out
 

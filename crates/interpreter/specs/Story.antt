@@ -6,11 +6,11 @@ use Rattle.mds_base.specs.declared.setup.Setup.{Setup}
 use Rattle.client_core.specs.declared.taken.Taken.{Taken}
 use Rattle.client_core.specs.declared.taken.Taken.TheVariants as takes
 use Rattle.client_core.specs.Taking as taking
+use Rattle.node_core.specs.Rules.{is_served}
 use Rattle.records.specs.declared.msg.Msg.{Msg}
 use Rattle.script.specs.Grammar.{IsLine}
 use Rattle.script.specs.declared.line.Line.{Line}
 use Rattle.script.specs.declared.line.Line.TheVariants as lines
-use Rattle.script.specs.Stages.{has_come}
 use Rattle.simulation.specs.Runs.{RunV, grown, is_named}
 use Rattle.simulation.specs.Shows.{server_for}
 use Rattle.world.specs.declared.event.Event.{Event}
@@ -46,24 +46,20 @@ abbrev pub seat_is_busy : Option ClientState → Bool
 seat_is_busy None = false
 seat_is_busy (Some seat) = is_open seat.client.pending
 
--- whether a line may stand at its place, by the world there
-abbrev pub stands_at : WorldV → Line → Bool
-stands_at w lines.Skipped = true
-stands_at w (lines.Call client call) = seat_is_idle (seat_at w.clients client)
-stands_at w (lines.Issue client call) = seat_is_idle (seat_at w.clients client)
-stands_at w (lines.Retry client) = seat_is_busy (seat_at w.clients client)
-stands_at w (lines.Deliver place) = is_some (server_for (slice_get w.sent place))
-stands_at w (lines.Take client place) = is_for_client client (slice_get w.sent place)
-stands_at w lines.Settle = true
-stands_at w (lines.Tick by) = true
-stands_at w (lines.Fuse server calls) = true
-stands_at w (lines.Stop server) = is_up (slice_get w.servers server)
-stands_at w (lines.Restart server) = not (is_up (slice_get w.servers server))
-stands_at w line = false
-
--- its kind has come, and it may stand there
+-- whether a line is allowed at its place, by the world there; one that is not carried out yet is allowed nowhere
 abbrev pub is_allowed : WorldV → Line → Bool
-is_allowed w line = has_come line && stands_at w line
+is_allowed w lines.Skipped = true
+is_allowed w (lines.Call client call) = seat_is_idle (seat_at w.clients client) && is_served call
+is_allowed w (lines.Issue client call) = seat_is_idle (seat_at w.clients client) && is_served call
+is_allowed w (lines.Retry client) = seat_is_busy (seat_at w.clients client)
+is_allowed w (lines.Deliver place) = is_some (server_for (slice_get w.sent place))
+is_allowed w (lines.Take client place) = is_for_client client (slice_get w.sent place)
+is_allowed w lines.Settle = true
+is_allowed w (lines.Tick by) = true
+is_allowed w (lines.Fuse server calls) = true
+is_allowed w (lines.Stop server) = is_up (slice_get w.servers server)
+is_allowed w (lines.Restart server) = not (is_up (slice_get w.servers server))
+is_allowed w line = false
 
 -- ---- what a line does
 

@@ -10,13 +10,14 @@ ghost use Rattle.simulation.specs.Shows.{Shows, client_at, is_idle, is_busy};
 ghost use Rattle.world.specs.declared.event.Event.TheVariants as Event;
 ghost use Rattle.world.specs.Events.{is_call};
 ghost use Rattle.interpreter.specs.Payments.{Pays, fuses_of};
-ghost use Rattle.interpreter.specs.Steps.{Carries, Halts, IsRound, IsRequested, allows, may_stand};
+ghost use Rattle.interpreter.specs.Steps.{Carries, Halts, IsRound, IsRequested, allows};
 ghost use Rattle.interpreter.specs.Story.{IsSaid, IsBegun, IsDone, IsFollowed, IsFollowing, IsSettled, IsSettling, IsSentAndFollowed, IsSending, is_allowed};
 
 use crate::interpreter::{Halt, Interpreter};
 use mds_base::limits::EVENTS;
 use mds_base::{Call, Which};
 use mds_out::Disk;
+use node_core::is_served;
 use script::Line;
 use std::alloc::Global;
 
@@ -30,22 +31,19 @@ impl<D: Disk> Interpreter<D> {
         self.allows(line)
     }
 
+    // Whether a line is allowed, by what the simulation holds.
     fn allows(&self, line: &Line) -> bool
         requires { IsSaid self.now.simulation.setup line.now }
         ensures { result ≡ allows self.now.simulation line.now }
     {
-        line.has_come() && self.may_stand(line)
-    }
-
-    // Whether a line may stand at its place, by what the simulation holds.
-    fn may_stand(&self, line: &Line) -> bool
-        requires { IsSaid self.now.simulation.setup line.now }
-        ensures { result ≡ may_stand self.now.simulation line.now }
-    {
         match line {
             Line::Skipped => true,
-            Line::Call { client, .. } => !self.simulation.client(*client).busy(),
-            Line::Issue { client, .. } => !self.simulation.client(*client).busy(),
+            Line::Call { client, call } => {
+                !self.simulation.client(*client).busy() && is_served(call)
+            }
+            Line::Issue { client, call } => {
+                !self.simulation.client(*client).busy() && is_served(call)
+            }
             Line::Retry { client } => self.simulation.client(*client).busy(),
             Line::Deliver { place } => self.simulation.server_for(*place).is_some(),
             Line::Take { client, place } => self.simulation.is_for_client(*client, *place),
@@ -54,6 +52,7 @@ impl<D: Disk> Interpreter<D> {
             Line::Fuse { .. } => true,
             Line::Stop { server } => self.simulation.is_up(*server),
             Line::Restart { server } => !self.simulation.is_up(*server),
+            // It is not carried out yet.
             _ => false,
         }
     }
@@ -92,7 +91,7 @@ impl<D: Disk> Interpreter<D> {
             }
             Line::Stop { server } => self.stop(server),
             Line::Restart { server } => self.restart(alloc, server),
-            // It has not come.
+            // It is not allowed.
             _ => unreachable!(),
         }
     }

@@ -11,14 +11,15 @@ use Rattle.mds_base.specs.declared.reply.Final.TheVariants.{Removed, IsDir}
 use Rattle.mds_base.specs.declared.reply.Reply.TheVariants.{Said}
 use Rattle.mds_base.specs.Entries as entries
 use Rattle.mds_base.specs.PlainRules as plain
-use Rattle.mds_base.specs.RowKeys.{RowMap}
+use Rattle.mds_base.specs.RowKeys.{RowMap, edited_rows, edited_count}
 use Rattle.records.specs.declared.record.Record.TheVariants.{Served}
 use Rattle.sessions.specs.declared.kept.Judged.{Judged}
 use Rattle.sessions.specs.declared.kept.Judged.TheVariants.{New}
 use Rattle.sessions.specs.Kept.{judge_kept}
 use Rattle.sessions.specs.Kept as sessions
 use Rattle.mds_base.specs.declared.edit.Edit.{Edit}
-use Rattle.node_core.specs.Nodes.{NodeV, StoreV, owns, session_in, row_in, row_key, rows_after, noted_in, edited_rows, part_in, edited_count}
+use Rattle.node_core.specs.Nodes.{NodeV, StoreV, owns, session_in, row_in, rows_after, noted_in, part_in}
+use Rattle.name_hash.specs.RowPlace.{row_key}
 use Rattle.node_core.specs.Rules.{ChangeOf, LookOf, NotServed, asked_of, said_of, said_in, found, Silent, Looks, by_judged, outcome_of}
 use Rattle.node_core.specs.Serving.{ServedV, served_as, serve_ask, answer_to, carried, carried_at, part_at}
 use Rattle.node_core.specs.Edits.{node_noted, numbers_of}

@@ -17,13 +17,14 @@ use Rattle.mds_base.specs.declared.edit.Edit.{Edit}
 use Rattle.mds_base.specs.declared.edit.Edit.TheVariants.{Keep, Put, Take}
 use Rattle.mds_base.specs.Entries.{Place, Entries, edited, edited_entry}
 use Rattle.mds_base.specs.PlainRules.{given_by}
-use Rattle.mds_base.specs.RowKeys.{RowMap}
+use Rattle.mds_base.specs.RowKeys.{RowMap, edited_rows, edited_count}
 use Rattle.mds_base.proofs.Maps.{insert_apart, remove_apart}
 use Rattle.mds_base.proofs.Places.{edited_here, places_total}
 use Rattle.mds_base.proofs.RowMaps.{row_keys_total, exact_row_keys}
 use Rattle.node_core.specs.declared.part.Part.{Part}
 use Rattle.node_core.proofs.Keys.{same_or_apart}
-use Rattle.node_core.specs.Nodes.{NodeV, PartKey, part_cmp, part_in, new_part, session_in, noted_in, row_key, row_in, rows_after, edited_rows, edit_in, edited_count, cleared, cleared_part}
+use Rattle.node_core.specs.Nodes.{NodeV, PartKey, part_cmp, part_in, new_part, session_in, noted_in, row_in, rows_after, edit_in, cleared, cleared_part}
+use Rattle.name_hash.specs.RowPlace.{row_key}
 
 pub parts_total : IsTotalOrder part_cmp
 parts_total = then_total (on_total (λ (p : PartKey). p.0) nat_cmp_total) (on_total (λ (p : PartKey). p.1) nat_cmp_total)

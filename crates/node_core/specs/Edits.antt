@@ -7,7 +7,8 @@ use Rattle.sessions.specs.Kept as sessions
 use Rattle.node_core.specs.declared.part.Part.{Part}
 use Rattle.mds_base.specs.declared.edit.Edit.{Edit}
 use Rattle.mds_base.specs.declared.reply.Final.TheVariants.{CreatedDir}
-use Rattle.node_core.specs.Nodes.{NodeV, PartKey, part_cmp, new_part, edited_count}
+use Rattle.node_core.specs.Nodes.{NodeV, PartKey, part_cmp, new_part}
+use Rattle.mds_base.specs.RowKeys.{edited_count}
 
 -- a partition once a change was noted in it
 abbrev pub part_noted : Part → ℕ → ℕ → Final → Edit → Option Attr → Part

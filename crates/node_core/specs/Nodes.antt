@@ -13,14 +13,11 @@ use Rattle.mds_base.specs.declared.call.Call.{Call}
 use Rattle.mds_base.specs.declared.reply.Final.{Final}
 use Rattle.mds_base.specs.declared.reply.Reply.TheVariants.{Said}
 use Rattle.mds_base.specs.declared.setup.Setup.{Setup}
-use Rattle.mds_base.specs.declared.row_key.RowKey.{RowKey}
 use Rattle.mds_base.specs.declared.edit.Edit.{Edit}
-use Rattle.mds_base.specs.declared.edit.Edit.TheVariants.{Keep, Put, Take}
 use Rattle.mds_base.specs.PlainRules.{edit_of, given_by}
-use Rattle.mds_base.specs.RowKeys.{RowMap}
-use Rattle.chains.specs.Reversed.{reversed}
+use Rattle.mds_base.specs.RowKeys.{RowMap, edited_rows, edited_count}
 use Rattle.placement.specs.Placement.{server_of}
-use Rattle.name_hash.specs.NameHash.{hash_of}
+use Rattle.name_hash.specs.RowPlace.{row_key}
 use Rattle.sessions.specs.declared.kept.Kept.{Kept}
 use Rattle.sessions.specs.Kept as sessions
 use Rattle.node_core.specs.declared.part.Part.{Part}
@@ -101,24 +98,9 @@ bits_in node dir = set.insert set.empty 0
 abbrev pub owns : NodeV → ℕ → ℕ → Bool
 owns node dir part = server_for node.setup.servers dir part == node.server
 
--- where the row of a name stands
-abbrev pub row_key : ℕ → ℕ → List ℕ → RowKey
-row_key dir part name = record { dir = dir; part = part; rev = reversed 64 (hash_of name); name = name }
-
 -- the attributes of a name in a partition
 unfoldable pub row_in : RowMap → ℕ → ℕ → List ℕ → Option Attr
 row_in rows dir part name = map.get rows (row_key dir part name)
-
-abbrev pub edited_rows : RowMap → RowKey → Edit → RowMap
-edited_rows rows key Keep = rows
-edited_rows rows key (Put attr) = map.insert rows key attr
-edited_rows rows key Take = map.remove rows key
-
--- how many rows there are once one entry was edited
-abbrev pub edited_count : ℕ → Edit → Option Attr → ℕ
-edited_count count (Put attr) None = count + 1
-edited_count count Take (Some before) = count - 1
-edited_count count edit before = count
 
 -- what becomes of the row of a name by a call that got this final reply
 abbrev pub edit_in : RowMap → ℕ → ℕ → List ℕ → Call → Final → Edit

@@ -1,13 +1,13 @@
 -- Serving a message in two steps: a plan, worked out against a store that stays as it is, and the small change that
 -- the plan leaves to be made.
 use Rattle.std.specs.Prelude.{◌≡◌, ℕ, Option, Some, None}
-use Rattle.mds_base.specs.RowKeys.{RowMap}
+use Rattle.mds_base.specs.RowKeys.{RowMap, edited_rows}
 use Rattle.records.specs.declared.msg.Msg.{Msg}
 use Rattle.sessions.specs.declared.kept.Judged.TheVariants.{New}
 use Rattle.sessions.specs.Kept.{judge_kept}
 use Rattle.node_core.specs.declared.plan.Change.{Change}
 use Rattle.node_core.specs.declared.plan.Plan.{Plan}
-use Rattle.node_core.specs.Nodes.{NodeV, StoreV, session_in, edited_rows}
+use Rattle.node_core.specs.Nodes.{NodeV, StoreV, session_in}
 use Rattle.node_core.specs.Edits.{node_noted}
 use Rattle.node_core.specs.Serving.{ServedV, serve}
 

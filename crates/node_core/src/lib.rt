@@ -14,7 +14,6 @@ mod law;
 mod node;
 mod part;
 mod plan;
-mod rows;
 mod told;
 mod undo;
 

@@ -18,12 +18,12 @@ ghost use Rattle.mds_base.specs.Calls.{dir_of};
 use crate::asks::{Asks, asks_of, request_in};
 use crate::part::{Part, Weighed, weigh};
 use crate::plan::{Change, Plan};
-use crate::rows::{key_of, write};
 use crate::told::{answered, nothing, recorded};
 use crate::undo::{Undo, undo_in};
 use bitmap::Bitmap;
 use mds_base::limits::{SERVE_DIRECTORIES, SERVER_DIRECTORIES};
-use mds_base::{Ask, Attr, Call, Final, Name, Reply, Rows, RowsFault, Setup};
+use mds_base::{Ask, Attr, Call, Final, Name, Reply, Rows, RowsFault, Setup, edit_row};
+use name_hash::row_key;
 use placement::zeroth;
 use records::{Handled, Msg, MsgList, Record};
 use sessions::{Judged, Kept};
@@ -194,7 +194,7 @@ impl Node {
         } = change;
         let undo = self.before_in(dir, client);
         self.note(alloc, dir, client, seq, weighed, before)?;
-        match write(rows, key, weighed.edit) {
+        match edit_row(rows, key, weighed.edit) {
             Ok(()) => Ok(()),
             Err(fault) => {
                 self.undo(undo);
@@ -242,7 +242,7 @@ impl Node {
         if !self.owns(dir) {
             return Ok(Plan::unchanging(nothing(alloc)));
         }
-        let key = key_of(alloc, dir, name)?;
+        let key = row_key(alloc, dir, 0, name)?;
         let attr = rows.get(&key)?;
         let until = now + self.setup.lease;
         let handled = answered(alloc, ask, found(attr, until))?;
@@ -294,7 +294,7 @@ impl Node {
         ensures cause { HasRowsCause (R.faults rows.old) (R.faults rows.new) result }
     {
         let _moment = now;
-        let key = key_of(alloc, dir, name)?;
+        let key = row_key(alloc, dir, 0, name)?;
         let before = rows.get(&key)?;
         let weighed = weigh(&ask.call, before, self.next);
         let handled = recorded(alloc, ask, weighed.said)?;
@@ -404,7 +404,7 @@ impl Node {
         if !self.may_carry(dir, client, seq, part) {
             return Ok(false);
         }
-        let key = key_of(alloc, dir, name)?;
+        let key = row_key(alloc, dir, 0, name)?;
         let before = rows.get(&key)?;
         let weighed = weigh(call, before, self.next);
         if differs(weighed.said, said) {

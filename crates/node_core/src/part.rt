@@ -3,7 +3,8 @@ ghost use Rattle.mds_base.specs.PlainRules as plain;
 ghost use Rattle.mds_base.specs.declared.reply.Reply.{Reply};
 ghost use Rattle.sessions.specs.declared.kept.Judged.{Judged};
 ghost use Rattle.sessions.specs.Kept.{judged};
-ghost use Rattle.node_core.specs.Nodes.{new_part, edited_count};
+ghost use Rattle.node_core.specs.Nodes.{new_part};
+ghost use Rattle.mds_base.specs.RowKeys.{edited_count};
 ghost use Rattle.node_core.specs.Rules.{said_of};
 ghost use Rattle.node_core.specs.Edits.{part_noted};
 

@@ -14,8 +14,9 @@ use Rattle.records.specs.declared.fault.RecordFault.{RecordFault}
 use Rattle.records.specs.declared.fault.RecordFault.TheVariants as record_faults
 use Rattle.records.specs.declared.record.Record.{Record}
 use Rattle.records.specs.declared.record.Record.TheVariants.{Head as Begins, Opened, Begin, Install, End, Served}
-use Rattle.records.specs.Spelling.{IsRecord, IsChange, SpellsBut, Spells, GivesOrMemory, record_spelling}
-use Rattle.records.specs.Reading.{record_at}
+use Rattle.records.specs.Spelling.{IsRecord, SpellsBut, Spells, GivesOrMemory, record_spelling}
+use Rattle.records.specs.ReadingRecords.{record_at}
+use Rattle.records.proofs.Changes.{ChangeParts, change_parts}
 use Rattle.records.proofs.Decoding.{same_ok}
 use Rattle.records.proofs.ToCome.{Reads}
 use Rattle.records.proofs.Records.{record_reads}
@@ -45,7 +46,7 @@ some_byte (Begins format servers server threshold) is = omega arith
 some_byte Opened is = omega arith
 some_byte (Served client seq part call said) is = omega arith
 some_byte (Begin dir part depth) is = omega arith
-some_byte (Install dir part depth bitmap sessions rows) is = absurd is
+some_byte (Install dir part depth bitmap sessions rows) is = omega arith
 some_byte (End dir part depth) is = omega arith
 
 -- ---- lists of records
@@ -110,7 +111,7 @@ nothing_follows store bytes none item more is parts follows = none item more is 
 
 -- ---- which records a node replays
 
-call_fits : (call : Call) → IsChange call → dir_of call < DIRECTORIES
+call_fits : (call : Call) → ChangeParts 0 call → dir_of call < DIRECTORIES
 call_fits (Create dir name) change = change.0.1
 call_fits (Mkdir dir name) change = change.0.1
 call_fits (Remove dir name) change = change.0.1
@@ -131,7 +132,7 @@ fits Opened is = tt
 fits (Begin dir part depth) is = tt
 fits (Install dir part depth bitmap sessions rows) is = tt
 fits (End dir part depth) is = tt
-fits (Served client seq part call said) is = call_fits call is.change
+fits (Served client seq part call said) is = call_fits call (change_parts 0 call is.change)
 
 abbrev with : NodeV → RowMap → StoreV
 with node rows = record { node = node; rows = rows }

@@ -3,10 +3,9 @@ use Rattle.std.proofs.Common.{◌≡◌, ◌∙◌, sym, ap, subst, refl, ℕ, �
 use Rattle.std.specs.Cmp.{eq_by_cmp_equiv}
 use Rattle.std.specs.FinMap as map
 use Rattle.std.specs.List.{AllByRecursion}
-use Rattle.std.proofs.lemmas.Bool.{and_from, and_parts, eq-eqb, leb-true, ltb-true}
-use Rattle.std.specs.Prelude.{nat_le, nat_lt}
+use Rattle.std.proofs.lemmas.Bool.{and_from, eq-eqb, leb-true}
 use Rattle.mds_base.specs.declared.ask.Ask.{Ask}
-use Rattle.mds_base.specs.declared.limits.TheConstants.{DIRECTORIES, MODE_MOST, SERVERS_MOST, SERVE_DIRECTORIES}
+use Rattle.mds_base.specs.declared.limits.TheConstants.{DIRECTORIES, SERVERS_MOST, SERVE_DIRECTORIES}
 use Rattle.mds_base.specs.declared.attr.Attr.{Attr}
 use Rattle.mds_base.specs.declared.attr.Stamp.{Stamp}
 use Rattle.mds_base.specs.declared.call.Call.{Call}
@@ -15,7 +14,6 @@ use Rattle.mds_base.specs.declared.reply.Final.{Final}
 use Rattle.mds_base.specs.declared.reply.Final.TheVariants.{CreatedDir, Exists, Removed, Missing, IsDir, Set}
 use Rattle.mds_base.specs.declared.reply.Reply.TheVariants.{Said}
 use Rattle.mds_base.specs.declared.setup.Setup.{Setup}
-use Rattle.mds_base.specs.Calls.{is_directory}
 use Rattle.mds_base.specs.Entries.{Place, place_cmp, Entries, is_file}
 use Rattle.mds_base.specs.RowKeys.{RowMap}
 use Rattle.mds_base.proofs.Places.{places_total}
@@ -99,19 +97,12 @@ numbered_at next before is =
 
 -- ---- a change that is carried out is recorded by a record that may follow
 
-a_directory : (dir : ℕ) → is_directory dir ≡ true → IsDirectory dir
-a_directory dir e = let both = and_parts (nat_le 1 dir) (nat_lt dir DIRECTORIES) e in (leb-true 1 dir both.0, ltb-true dir DIRECTORIES both.1)
-
-a_setattr : (dir : ℕ) (name : List ℕ) (mode size : ℕ) (stamp : Option Stamp) → IsWellMade (Setattr dir name mode size stamp) → IsChange (Setattr dir name mode size stamp)
-a_setattr dir name mode size stamp is =
-    let made = and_parts (is_directory dir) (nat_le mode MODE_MOST) is.made in
-    (a_directory dir made.0, is.named, leb-true mode MODE_MOST made.1, is.fits.0, is.fits.1)
-
 -- a call that is well made, and asks for a change, is one that a log keeps
 a_change : (call : Call) (dir : ℕ) (name : List ℕ) → asked_of call ≡ ChangeOf dir name → IsWellMade call → IsChange call
 a_change =
     each_change (λ call dir name. IsWellMade call → IsChange call)
-    (λ d n is. (a_directory d is.made, is.named)) (λ d n is. (a_directory d is.made, is.named)) (λ d n is. (a_directory d is.made, is.named)) a_setattr
+    (λ d n is. record { changes = refl; made = is.made; named = is.named; fits = tt; rows = tt }) (λ d n is. record { changes = refl; made = is.made; named = is.named; fits = tt; rows = tt }) (λ d n is. record { changes = refl; made = is.made; named = is.named; fits = tt; rows = tt })
+    (λ d n mode size stamp is. record { changes = refl; made = is.made; named = is.named; fits = is.fits; rows = tt })
 
 number_fits : (node : NodeV) → has_numbers node ≡ true → node.server < SERVERS_MOST → node.next < DIRECTORIES
 number_fits node numbers few = let enough = leb-true (node.next + SERVE_DIRECTORIES) (end_of_numbers node.server) numbers in omega arith

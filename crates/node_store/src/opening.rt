@@ -1,10 +1,11 @@
 //! Opening a server's disk: its log is made or read, and the new run is begun.
-ghost use Rattle.std.specs.Prelude.{◌≡◌, ◌≤◌, ◌<◌, ◌^◌, ℕ, List, ◌++◌, map, length, IfOk, IfErr, OnOk};
+ghost use Rattle.std.specs.Prelude.{◌≡◌, ◌≤◌, ◌<◌, ◌^◌, ℕ, List, [], ◌++◌, map, length, IfOk, IfErr, OnOk};
 ghost use Rattle.mds_base.specs.declared.limits.TheConstants.{LEASE_MOST};
 ghost use Rattle.mds_base.specs.declared.setup.Setup.{Setup};
 ghost use Rattle.mds_base.specs.declared.store_fault.StoreFault.{StoreFault};
 ghost use Rattle.mds_out.specs.Disk.{Image, LeavesOnly, IsUnchanged, StaysTold};
 ghost use Rattle.mds_out.specs.Known.{OnKnown, OnTold};
+ghost use Rattle.records.specs.Installs.{installed_rows};
 ghost use Rattle.records.specs.Spelling.{IsRecord, IsHead, record_spelling};
 ghost use Rattle.node_core.specs.Nodes.{StoreV};
 ghost use Rattle.node_store.specs.Opening.{StandAlike, IsAsBefore, IsOpenLog};
@@ -211,12 +212,13 @@ fn begin_run<D: Disk>(
     }
 }
 
-// A record as a body of its own.
+// A record other than an Install as a body of its own.
 fn piece(alloc: Global, item: &Record) -> Result<Piece, AllocError>
-    requires { IsRecord item.now }
+    requires spelled { IsRecord item.now }
+    requires without_rows { installed_rows item.now ≡ [] }
     ensures { IfOk result (λ piece. piece ≡ record_spelling item.now) }
 {
     let mut body = Piece::begin(alloc)?;
-    write(alloc, item, &mut body)?;
+    write(item, &mut body)?;
     Piece::end(body)
 }

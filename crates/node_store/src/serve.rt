@@ -35,7 +35,7 @@ fn spelled(alloc: Global, items: &[Record]) -> Result<Piece, AllocError>
 {
     let mut body = Piece::begin(alloc)?;
     for item in items {
-        write(alloc, item, &mut body)?;
+        write(item, &mut body)?;
     }
     if body.len() >= Piece::FRONT + (1 << 31) {
         return Err(AllocError);

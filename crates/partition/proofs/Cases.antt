@@ -10,14 +10,15 @@ use Rattle.mds_base.specs.declared.reply.Reply.TheVariants as replies
 use Rattle.mds_base.specs.declared.setup.Setup.{Setup}
 use Rattle.mds_base.specs.Calls.{CallOn, OnName, OnDirectory, OnPartition, asked_of}
 use Rattle.mds_base.specs.PlainRules.{edit_of}
-use Rattle.mds_base.specs.RowKeys.{RowMap}
+use Rattle.mds_base.specs.RowKeys.{RowMap, edited_count}
 use Rattle.sessions.specs.declared.kept.Judged.{Judged}
 use Rattle.sessions.specs.declared.kept.Judged.TheVariants.{New, Again, Old}
 use Rattle.sessions.specs.Kept.{judged}
 use Rattle.partition.specs.declared.plan.Step.{Step}
 use Rattle.partition.specs.declared.plan.Plan.{Plan}
 use Rattle.partition.specs.declared.partition.Partition.{Partition}
-use Rattle.partition.specs.Rows.{row_key, edits_of, edited_count, load_edits}
+use Rattle.partition.specs.Rows.{edits_of, load_edits}
+use Rattle.name_hash.specs.RowPlace.{row_key}
 use Rattle.partition.specs.Replies.{said_of, rows_of}
 use Rattle.partition.specs.Planning.{unchanging, look_plan, carry_plan, must_wait, edit_plan, name_plan, load_plan, new_plan, judged_plan, change_plan, plan_on, plan_part}
 

@@ -24,7 +24,8 @@ use Rattle.partition.specs.declared.plan.Step.{Step}
 use Rattle.partition.specs.declared.plan.Step.TheVariants.{Said}
 use Rattle.partition.specs.declared.plan.Plan.{Plan}
 use Rattle.partition.specs.declared.partition.Partition.{Partition}
-use Rattle.partition.specs.Rows.{row_key, written, load_edits}
+use Rattle.partition.specs.Rows.{written, load_edits}
+use Rattle.name_hash.specs.RowPlace.{row_key}
 use Rattle.partition.specs.Replies.{IsServed, rows_of}
 use Rattle.partition.specs.Planning.{unchanging, look_plan, carry_plan, plan_on, plan_part}
 use Rattle.partition.specs.Serving.{part_made, rows_made, edits_in, IsInPart}

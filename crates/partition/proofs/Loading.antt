@@ -8,10 +8,11 @@ use Rattle.mds_base.specs.declared.attr.Attr.{Attr}
 use Rattle.mds_base.specs.declared.edit.Edit.TheVariants.{Put}
 use Rattle.mds_base.specs.declared.row.Row.{Row}
 use Rattle.mds_base.specs.declared.row_key.RowKey.{RowKey}
-use Rattle.mds_base.specs.RowKeys.{RowMap, row_key_cmp}
+use Rattle.mds_base.specs.RowKeys.{RowMap, row_key_cmp, edited_rows}
 use Rattle.mds_base.proofs.RowMaps.{row_keys_total}
 use Rattle.partition.specs.declared.edits.RowEdit.{RowEdit}
-use Rattle.partition.specs.Rows.{row_key, edited_rows, written, load_edits}
+use Rattle.partition.specs.Rows.{written, load_edits}
+use Rattle.name_hash.specs.RowPlace.{row_key}
 
 -- one edit more
 pub written_more : (rows : RowMap) (edits : List RowEdit) (edit : RowEdit) → written rows (edits ++ edit ∷ []) ≡ edited_rows (written rows edits) edit.key edit.edit

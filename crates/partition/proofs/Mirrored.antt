@@ -23,10 +23,11 @@ use Rattle.mds_base.specs.declared.row_key.RowKey.{RowKey}
 use Rattle.mds_base.specs.Calls.{OnName, OnDirectory, OnPartition, asked_of, dir_of, dir_on}
 use Rattle.mds_base.specs.Entries.{Place, Entries, edited, edited_entry, is_file}
 use Rattle.mds_base.specs.PlainRules.{Allows, after, added, with_rows, edit_of}
-use Rattle.mds_base.specs.RowKeys.{RowMap}
+use Rattle.mds_base.specs.RowKeys.{RowMap, edited_rows}
 use Rattle.mds_base.proofs.Places.{edited_apart, edited_here}
 use Rattle.partition.specs.declared.edits.RowEdit.{RowEdit}
-use Rattle.partition.specs.Rows.{row_key, edited_rows, written, edits_of, load_edits}
+use Rattle.partition.specs.Rows.{written, edits_of, load_edits}
+use Rattle.name_hash.specs.RowPlace.{row_key}
 use Rattle.partition.specs.Replies.{IsServed, rows_of, said_of}
 use Rattle.partition.specs.Meaning.{Mirrors}
 use Rattle.partition.proofs.Rowing.{row_apart, row_here, one_written}

@@ -15,11 +15,12 @@ use Rattle.mds_base.specs.declared.edit.Edit.TheVariants.{Keep, Put, Take}
 use Rattle.mds_base.specs.declared.row.Row.{Row}
 use Rattle.mds_base.specs.declared.row_key.RowKey.{RowKey}
 use Rattle.mds_base.specs.Entries.{edited_entry}
-use Rattle.mds_base.specs.RowKeys.{RowMap, row_key_cmp}
+use Rattle.mds_base.specs.RowKeys.{RowMap, row_key_cmp, edited_rows, edited_count}
 use Rattle.mds_base.proofs.Maps.{insert_apart, remove_apart}
 use Rattle.mds_base.proofs.RowMaps.{row_keys_total, exact_row_keys, same_rows}
 use Rattle.partition.specs.declared.edits.RowEdit.{RowEdit}
-use Rattle.partition.specs.Rows.{row_key, edited_rows, written, edited_count, edits_of, load_edits}
+use Rattle.partition.specs.Rows.{written, edits_of, load_edits}
+use Rattle.name_hash.specs.RowPlace.{row_key}
 use Rattle.partition.specs.Meaning.{IsApart, is_of, count_in}
 
 -- ---- one row

@@ -17,7 +17,7 @@ use Rattle.partition.specs.declared.plan.Change.TheVariants.{Note}
 use Rattle.partition.specs.declared.plan.Step.TheVariants.{Said}
 use Rattle.partition.specs.declared.plan.Plan.{Plan}
 use Rattle.partition.specs.declared.partition.Partition.{Partition}
-use Rattle.partition.specs.Rows.{row_key}
+use Rattle.name_hash.specs.RowPlace.{row_key}
 use Rattle.partition.specs.Replies.{rows_of}
 use Rattle.partition.specs.Planning.{plan_part}
 use Rattle.partition.specs.Serving.{part_made, rows_made}

@@ -12,7 +12,7 @@ use Rattle.mds_base.specs.declared.reply.Reply.TheVariants as replies
 use Rattle.mds_base.specs.declared.setup.Setup.{Setup}
 use Rattle.mds_base.specs.Calls.{CallOn, OnName, OnDirectory, OnPartition, asked_of}
 use Rattle.mds_base.specs.PlainRules.{edit_of}
-use Rattle.mds_base.specs.RowKeys.{RowMap}
+use Rattle.mds_base.specs.RowKeys.{RowMap, edited_count}
 use Rattle.sessions.specs.declared.kept.Judged.{Judged}
 use Rattle.sessions.specs.declared.kept.Judged.TheVariants.{New, Again, Old}
 use Rattle.sessions.specs.Kept.{judged}
@@ -23,7 +23,8 @@ use Rattle.partition.specs.declared.plan.Step.TheVariants as steps
 use Rattle.partition.specs.declared.plan.Change.TheVariants.{Nothing, Lease, Note}
 use Rattle.partition.specs.declared.plan.Plan.{Plan}
 use Rattle.partition.specs.declared.partition.Partition.{Partition}
-use Rattle.partition.specs.Rows.{row_key, edits_of, edited_count, load_edits}
+use Rattle.partition.specs.Rows.{edits_of, load_edits}
+use Rattle.name_hash.specs.RowPlace.{row_key}
 use Rattle.partition.specs.Replies.{said_of, rows_of, waits}
 
 -- nothing changes but leases that have ended

@@ -1,12 +1,13 @@
 ghost use Rattle.std.specs.Prelude.{◌≡◌, ◌++◌, ◌∷◌, [], ◌||◌, is_some, IfOk, OnOk, OnErr};
 ghost use Rattle.std.specs.FinMap as map;
 ghost use Rattle.mds_base.specs.RowsCause.{HasRowsCause};
-ghost use Rattle.partition.specs.Rows.{row_key, edited_rows, written, edits_of, load_edits};
+ghost use Rattle.partition.specs.Rows.{written, edits_of, load_edits};
+ghost use Rattle.name_hash.specs.RowPlace.{row_key};
+ghost use Rattle.mds_base.specs.RowKeys.{edited_rows};
 ghost use Rattle.partition.specs.Serving.{IsInPart};
 
-use chains::reverse;
-use mds_base::{Edit, MapRows, Name, Row, RowKey, Rows, RowsFault};
-use name_hash::hash;
+use mds_base::{Edit, MapRows, Row, RowKey, Rows, RowsFault};
+use name_hash::row_key;
 use std::alloc::{AllocError, Global};
 use std::marker::Model;
 
@@ -61,18 +62,6 @@ impl EditList {
     }
 }
 
-/// Where the row of a name stands in a partition of a directory.
-pub fn key_of(alloc: Global, dir: u64, part: u32, name: &Name) -> Result<RowKey, AllocError>
-    ensures { IfOk result (λ key. key ≡ row_key dir part name.now) }
-{
-    Ok(RowKey {
-        dir,
-        part,
-        rev: reverse(hash(name)),
-        name: name.copy(alloc)?,
-    })
-}
-
 /// The edit of a row as a list; a row that stays is not written.
 pub fn list_of(alloc: Global, key: RowKey, edit: Edit) -> Result<EditList, AllocError>
     ensures { IfOk result (λ edits. edits ≡ edits_of key edit) }
@@ -113,11 +102,11 @@ pub fn edits_of_load<R: Rows>(
     let mut edits = EditList::new(alloc);
     let mut added = MapRows::new(alloc);
     for row in load {
-        let key = key_of(alloc, dir, part, &row.name)?;
+        let key = row_key(alloc, dir, part, &row.name)?;
         if is_there(rows, &mut added, &key)? {
             continue;
         }
-        added.put(copy_of(alloc, &key)?, row.attr)?;
+        added.put(key.copy(alloc)?, row.attr)?;
         edits.push(RowEdit {
             key,
             edit: Edit::Put(row.attr),
@@ -170,18 +159,7 @@ fn write_one<R: Rows>(alloc: Global, rows: &mut R, edit: &RowEdit) -> Result<(),
 {
     match edit.edit {
         Edit::Keep => Ok(()),
-        Edit::Put(attr) => rows.put(copy_of(alloc, &edit.key)?, attr),
+        Edit::Put(attr) => rows.put(edit.key.copy(alloc)?, attr),
         Edit::Take => rows.take_away(&edit.key),
     }
-}
-
-fn copy_of(alloc: Global, key: &RowKey) -> Result<RowKey, AllocError>
-    ensures { IfOk result (λ copy. copy ≡ key.now) }
-{
-    Ok(RowKey {
-        dir: key.dir,
-        part: key.part,
-        rev: key.rev,
-        name: key.name.copy(alloc)?,
-    })
 }

@@ -12,7 +12,7 @@ ghost use Rattle.partition.specs.Planning.{change_plan, new_plan, must_wait};
 ghost use Rattle.partition.specs.Serving.{empty_part, part_of, changed, part_noted, part_made, rows_made};
 ghost use Rattle.partition.specs.Serving.{edits_in, serve_part, IsNewer, IsInPart, IsServedPart};
 
-use crate::edits::{RowEdit, edits_of_load, key_of, list_of, write};
+use crate::edits::{RowEdit, edits_of_load, list_of, write};
 use crate::plan::{Change, Plan, Step};
 use crate::replies::{count_after, count_more, number_of, rows_of, said_to, waits};
 use leases::Leases;
@@ -20,6 +20,7 @@ use mds_base::{
     Ask, Asked, Attr, Edit, Final, Reply, RowKey, Rows, RowsFault, Session, SessionList, Setup,
     SplitState,
 };
+use name_hash::row_key;
 use sessions::{Judged, Sessions};
 use std::alloc::{AllocError, Global};
 
@@ -141,7 +142,7 @@ impl Partition {
                 self.plan_look(
                     alloc,
                     rows,
-                    key_of(alloc, dir, part, name)?,
+                    row_key(alloc, dir, part, name)?,
                     now,
                     setup.lease,
                 )
@@ -297,7 +298,7 @@ impl Partition {
     {
         match ask.call.asked() {
             Asked::Name { name, .. } => {
-                let key = key_of(alloc, dir, part, name)?;
+                let key = row_key(alloc, dir, part, name)?;
                 self.plan_name(alloc, rows, key, ask, now, fresh)
             }
             Asked::Directory { .. } => self.plan_load(alloc, rows, dir, part, ask, now),

@@ -1,7 +1,7 @@
 //! What the plain rules say to a call, by the entry that stands at its name.
 ghost use Rattle.std.specs.Prelude.{◌≡◌, ◌+◌, IfOk, MatchBool};
 ghost use Rattle.partition.specs.Replies.{IsServed, made, removed, unlinked, reset, rows_of, said_of, waits};
-ghost use Rattle.partition.specs.Rows.{edited_count};
+ghost use Rattle.mds_base.specs.RowKeys.{edited_count};
 
 use mds_base::{Attr, Call, Edit, Final, Row};
 use std::alloc::AllocError;

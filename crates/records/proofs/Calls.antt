@@ -10,7 +10,8 @@ use Rattle.mds_base.specs.declared.call.Call.TheVariants.{Create, Mkdir, Remove,
 use Rattle.mds_base.specs.declared.row.Row.{Row}
 use Rattle.records.specs.declared.kinds.TheConstants as kinds
 use Rattle.records.specs.Rows.{AreRising, rows_spelling}
-use Rattle.records.specs.Spelling.{IsDirectory, IsLoad, IsChangeBut, call_spelling}
+use Rattle.records.specs.Spelling.{IsDirectory, call_spelling}
+use Rattle.records.proofs.Changes.{LoadRows, ChangeParts}
 use Rattle.records.specs.declared.fault.Fault.{Fault}
 use Rattle.records.specs.Faults.{◌>>=◌}
 use Rattle.records.specs.Reading.{set_after, named_after, other_after, call_after, rows_at, call_kinds, call_at}
@@ -22,7 +23,7 @@ use Rattle.records.proofs.Shapes.{Shape, Done, Byte, Number, Name, If, Args, Ran
 
 -- a call that a log keeps, and its spelling
 pub record CallText (missing : ℕ) (text : List ℕ) (call : Call) : Type 0 where
-  pub change : IsChangeBut missing call
+  pub change : ChangeParts missing call
   pub text_is : text ≡ call_spelling call
 
 -- the stamp of an owner and a time
@@ -147,7 +148,7 @@ calls_made = (λ _. create_made, (λ _. mkdir_made, (λ _. remove_made, (λ _. s
 pub record LoadText (dir missing : ℕ) (text : List ℕ) (call : Call) : Type 0 where
   pub rows : List Row
   pub call_is : call ≡ Load dir rows
-  pub load : IsLoad missing rows
+  pub load : LoadRows missing rows
   pub text_is : text ≡ rows_spelling false rows
 
 abbrev LoadParts : ℕ → ℕ → List ℕ → Call → Type 0

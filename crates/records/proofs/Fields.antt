@@ -13,7 +13,8 @@ use Rattle.records.specs.declared.fault.Fault.{Fault}
 use Rattle.records.specs.declared.fault.Fault.TheVariants.{Short, Bad}
 use Rattle.records.specs.Reading.{byte_where, byte_among, leads_into, number_after, number_at, from_foreign, text_from, text_at, name_at}
 use Rattle.records.proofs.Numbers.{weight_pos}
-use Rattle.records.proofs.Decoding.{IsBytes, Begun, Takes, Refuses, Decodes, Follows, Seq, in_turn, ends_here, same_grammar, failed}
+use Rattle.records.proofs.ToCome.{in_turn}
+use Rattle.records.proofs.Decoding.{IsBytes, Begun, Takes, Refuses, Decodes, Follows, Seq, ends_here, same_grammar, failed}
 
 -- ---- one byte
 

@@ -17,8 +17,9 @@ use Rattle.mds_base.specs.declared.row.Row.{Row}
 use Rattle.mds_base.specs.PlainRules.{SealAllows, added}
 use Rattle.mds_base.proofs.Places.{places_total}
 use Rattle.records.specs.declared.kinds.TheConstants as kinds
-use Rattle.records.specs.Spelling.{IsDirectory, IsChange, IsChangeBut, MaySay, IsNumbered, tag_of, number_of, final_spelling}
+use Rattle.records.specs.Spelling.{IsDirectory, MaySay, IsNumbered, tag_of, number_of, final_spelling}
 use Rattle.records.specs.Reading.{byte_among, tags_of, least_of, most_of, final_of, is_low, sealed_at, final_at}
+use Rattle.records.proofs.Changes.{ChangeParts}
 use Rattle.records.proofs.Decoding.{Follows, same_follows}
 use Rattle.records.proofs.ToCome.{Opens, goes_plainly}
 use Rattle.records.proofs.Loads.{distinct_of, added_most, reached}
@@ -32,7 +33,7 @@ pub record FinalText (call : Call) (text : List ℕ) (said : Final) : Type 0 whe
   pub numbered : IsNumbered said
   pub text_is : text ≡ final_spelling said
 
-abbrev sealed_shape : Shape Final
+abbrev pub sealed_shape : Shape Final
 sealed_shape = Number 7 0 (2 ^ 44 - 1) (λ high. Byte is_low (λ low. Done (Sealed (low % 16) (high * 16 + low / 16))))
 
 -- what follows the tag
@@ -43,7 +44,7 @@ abbrev final_shape : Call → Shape Final
 final_shape call = Byte (is_among (tags_of call)) (tag_shape call)
 
 -- a range of numbers of eight bytes
-abbrev IsRange : ℕ → ℕ → Type 0
+abbrev pub IsRange : ℕ → ℕ → Type 0
 IsRange least most = (least ≤ most) × (most < 256 ^ 8)
 
 range_of : (a b : Bool) → IsRange (cond a 1 (cond b 2 0)) (cond a (2 ^ 48 - 1) (cond b (2 ^ 45) 0))
@@ -59,7 +60,7 @@ load_range : (count : ℕ) (a : Bool) → IsRange 0 (cond a (min count 4096) 0)
 load_range count true = (omega arith, omega arith)
 load_range count false = (lit≤ tt, lit< tt)
 
-in_range : (call : Call) → IsChange call → (tag : ℕ) → IsRange (least_of call tag) (most_of call tag)
+in_range : (call : Call) → ChangeParts 0 call → (tag : ℕ) → IsRange (least_of call tag) (most_of call tag)
 in_range (Create dir name) change tag = range_of (tag == kinds.FINAL_CREATED_DIR) (tag == kinds.FINAL_IDS)
 in_range (Mkdir dir name) change tag = range_of (tag == kinds.FINAL_CREATED_DIR) (tag == kinds.FINAL_IDS)
 in_range (Remove dir name) change tag = range_of (tag == kinds.FINAL_CREATED_DIR) (tag == kinds.FINAL_IDS)
@@ -78,7 +79,7 @@ in_range (Load dir rows) change tag = load_range (length rows) (tag == kinds.FIN
 abbrev SomeTag : Call → Type 0
 SomeTag call = (tag : ℕ) × (tag < 256) × (is_among (tags_of call) tag ≡ true)
 
-some_tag : (call : Call) → IsChange call → SomeTag call
+some_tag : (call : Call) → ChangeParts 0 call → SomeTag call
 some_tag (Create dir name) change = (kinds.FINAL_CREATED, lit< tt, refl)
 some_tag (Mkdir dir name) change = (kinds.FINAL_EXISTS, lit< tt, refl)
 some_tag (Remove dir name) change = (kinds.FINAL_REMOVED, lit< tt, refl)
@@ -93,10 +94,10 @@ some_tag (Lookup dir name) change = absurd change
 some_tag (Scan dir) change = absurd change
 some_tag (Load dir rows) change = (kinds.FINAL_STALE, lit< tt, refl)
 
-sealed_sound : Sound sealed_shape
+pub sealed_sound : Sound sealed_shape
 sealed_sound = (omega arith, lit< tt, λ high _ _. ((0, lit< tt, refl), λ low _. tt))
 
-final_sound : (call : Call) → IsChange call → Sound (final_shape call)
+final_sound : (call : Call) → ChangeParts 0 call → Sound (final_shape call)
 final_sound call change = (some_tag call change, λ tag _. (λ _. sealed_sound, λ _. let range = in_range call change tag in (range.0, range.1, λ number _ _. tt)))
 
 -- what stands at a place of a map: nothing, a file, or a directory
@@ -139,7 +140,7 @@ low_bytes (suc k) high low small =
     let first : byte_at (suc k) (high * 256 + low) ≡ byte_at k high = byte_up k high low small in
     ap (λ (b : ℕ). b ∷ bytes_high_first (suc k) (high * 256 + low)) first ∙ ap (λ (t : List ℕ). byte_at k high ∷ t) rest
 
-seal_bytes : (epoch depth : ℕ) → depth ≤ 14 → to_be_bytes w64 (16 * epoch + depth) ≡ bytes_high_first 7 (epoch / 16) ++ (epoch % 16 * 16 + depth) ∷ []
+pub seal_bytes : (epoch depth : ℕ) → depth ≤ 14 → to_be_bytes w64 (16 * epoch + depth) ≡ bytes_high_first 7 (epoch / 16) ++ (epoch % 16 * 16 + depth) ∷ []
 seal_bytes epoch depth small =
     let whole : 16 * epoch + depth ≡ epoch / 16 * 256 + (epoch % 16 * 16 + depth) = omega arith in
     ap (to_be_bytes w64) whole ∙ low_bytes 7 (epoch / 16) (epoch % 16 * 16 + depth) (omega arith)
@@ -152,7 +153,7 @@ OfTag call tag = (a : Args (tag_shape call tag)) → Ranged (tag_shape call tag)
 plain : (call : Call) (said : Final) (number : ℕ) → number_of said ≡ 0 → IsNumbered said → MaySay call said → number ≤ 0 → FinalText call (tag_of said ∷ to_be_bytes w64 number) said
 plain call said number none numbered may no_number = record { reply = may; numbered = numbered; text_is = ap (λ (n : ℕ). tag_of said ∷ to_be_bytes w64 n) (let same : number ≡ 0 = omega arith in same ∙ sym none) }
 
-sealed_made : (dir part epoch : ℕ) → OfTag (Seal dir part epoch) kinds.FINAL_SEALED
+pub sealed_made : (dir part epoch : ℕ) → OfTag (Seal dir part epoch) kinds.FINAL_SEALED
 sealed_made dir part epoch a r =
     let low : a.1.0 % 16 ≤ 14 = grind (arith, nat_tests, r.1.0.1) in
     let byte = r.1.0.0 in
@@ -165,7 +166,7 @@ sealed_made dir part epoch a r =
       text_is = ap (λ (t : List ℕ). kinds.FINAL_SEALED ∷ t) (sym (seal_bytes (a.0 * 16 + a.1.0 / 16) (a.1.0 % 16) low ∙ ap (λ (n : ℕ). bytes_high_first 7 n ++ ((a.0 * 16 + a.1.0 / 16) % 16 * 16 + a.1.0 % 16) ∷ []) upper ∙ ap (λ (b : ℕ). bytes_high_first 7 a.0 ++ b ∷ []) lower));
     }
 
-finals_made : (call : Call) → IsChange call → AllOf (OfTag call) (tags_of call)
+finals_made : (call : Call) → ChangeParts 0 call → AllOf (OfTag call) (tags_of call)
 finals_made (Create dir name) change = (
   λ a r. plain (Create dir name) Created a.0 refl tt (nothing, says_absent (dir, name) _ (λ _. Said Created ≡ Said Exists) refl) r.0.1,
   (λ a r. plain (Create dir name) Exists a.0 refl tt (only (dir, name) new_file, says_there (dir, name) new_file (Said Exists ≡ Said Created) (λ _. Said Exists ≡ Said Exists) refl) r.0.1, tt),
@@ -224,7 +225,7 @@ finals_made (Load dir rows) change = (
   (λ a r. plain (Load dir rows) Stale a.0 refl tt (nothing, inr refl) r.0.1, tt),
 )
 
-final_there : (call : Call) → IsChange call → (text : List ℕ) (said : Final) → Of (final_shape call) text said → FinalText call text said
+final_there : (call : Call) → ChangeParts 0 call → (text : List ℕ) (said : Final) → Of (final_shape call) text said → FinalText call text said
 final_there call change text said o =
     let made = each_of (OfTag call) (tags_of call) (finals_made call change) o.args.0 o.ranged.0.1 o.args.1 o.ranged.1 in
     subst (FinalText call text) (sym o.value_is) (record { reply = made.reply; numbered = made.numbered; text_is = o.text_is ∙ made.text_is })
@@ -265,7 +266,7 @@ grabbed dir name count said numbered s =
     let range : (2 ≤ s.0) × (s.0 ≤ 2 ^ 45) = subst IsNumbered same numbered in
     read_as (Grab dir name count) (Ids s.0) said s.1 (record { args = (kinds.FINAL_IDS, (s.0, tt)); ranged = ((lit< tt, refl), (range, tt)); text_is = refl; value_is = refl })
 
-is_low_byte : (epoch depth : ℕ) → depth ≤ 14 → is_low (epoch % 16 * 16 + depth) ≡ true
+pub is_low_byte : (epoch depth : ℕ) → depth ≤ 14 → is_low (epoch % 16 * 16 + depth) ≡ true
 is_low_byte epoch depth small = let low : (epoch % 16 * 16 + depth) % 16 ≤ 14 = omega arith in grind (arith, nat_tests)
 
 sealed_read : (dir part e epoch depth : ℕ) → (depth ≤ 14) × (epoch < 2 ^ 48) → Read (Seal dir part e) (Sealed depth epoch)
@@ -303,7 +304,7 @@ loaded_read dir rows said entries few e =
     let most = added_most entries dir rows in
     read_as (Load dir rows) (Loaded (added entries dir rows)) said e (record { args = (kinds.FINAL_LOADED, (added entries dir rows, tt)); ranged = ((lit< tt, refl), ((omega arith, omega arith), tt)); text_is = refl; value_is = refl })
 
-read_of : (call : Call) (said : Final) → IsChange call → MaySay call said → IsNumbered said → Read call said
+read_of : (call : Call) (said : Final) → ChangeParts 0 call → MaySay call said → IsNumbered said → Read call said
 read_of (Create dir name) said change may numbered = elim (one_of_two (map.get may.0 (dir, name)) _ _ may.1) [
   | inl e ↦ read_as (Create dir name) Created said e (record { args = (kinds.FINAL_CREATED, (0, tt)); ranged = ((lit< tt, refl), (zeros, tt)); text_is = refl; value_is = refl })
   | inr e ↦ read_as (Create dir name) Exists said e.1 (record { args = (kinds.FINAL_EXISTS, (0, tt)); ranged = ((lit< tt, refl), (zeros, tt)); text_is = refl; value_is = refl })
@@ -345,18 +346,18 @@ read_of (Load dir rows) said change may numbered = elim may.1 [
   | inr e ↦ read_as (Load dir rows) Stale said e (record { args = (kinds.FINAL_STALE, (0, tt)); ranged = ((lit< tt, refl), (zeros, tt)); text_is = refl; value_is = refl })
 ]
 
-final_back : (call : Call) → IsChange call → (text : List ℕ) (said : Final) → FinalText call text said → Of (final_shape call) text said
+final_back : (call : Call) → ChangeParts 0 call → (text : List ℕ) (said : Final) → FinalText call text said → Of (final_shape call) text said
 final_back call change text said s = let r = read_of call said change s.reply s.numbered in record { args = r.args; ranged = r.ranged; text_is = s.text_is ∙ r.text_is; value_is = r.value_is }
 
-final_parts : (call : Call) → IsChange call → Follows (Of (final_shape call)) (final_at call)
+final_parts : (call : Call) → ChangeParts 0 call → Follows (Of (final_shape call)) (final_at call)
 unfolding final_at sealed_at byte_among
 final_parts call change = shape_reads (final_shape call) (final_sound call change)
 
-pub final_reads : (call : Call) → IsChange call → Follows (FinalText call) (final_at call)
+pub final_reads : (call : Call) → ChangeParts 0 call → Follows (FinalText call) (final_at call)
 final_reads call change = same_follows (final_there call change) (final_back call change) (final_parts call change)
 
 -- some final may be said to each call, also to one whose rows are still to come
-pub final_opens : (n : ℕ) (call : Call) → IsChangeBut n call → Opens (λ _. FinalText call)
+pub final_opens : (n : ℕ) (call : Call) → ChangeParts n call → Opens (λ _. FinalText call)
 final_opens n (Create dir name) change = (goes_plainly (final_reads (Create dir name) change)).opens
 final_opens n (Mkdir dir name) change = (goes_plainly (final_reads (Mkdir dir name) change)).opens
 final_opens n (Remove dir name) change = (goes_plainly (final_reads (Remove dir name) change)).opens

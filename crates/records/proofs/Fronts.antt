@@ -9,7 +9,7 @@ use Rattle.records.specs.declared.fault.Stop.TheVariants as stops
 use Rattle.records.specs.declared.record.Record.{Record}
 use Rattle.records.specs.Faults.{Fails}
 use Rattle.records.specs.Spelling.{SpellsBut, Spells, IsBegun, IsBadAt}
-use Rattle.records.specs.Reading.{record_at}
+use Rattle.records.specs.ReadingRecords.{record_at}
 use Rattle.records.proofs.Decoding.{IsBytes, same_ok, not_both}
 use Rattle.records.proofs.ToCome.{Reads, Waits, bytes_before}
 use Rattle.records.proofs.Records.{record_reads, record_waits}

@@ -5,8 +5,14 @@ pub mod Fields
 pub mod Shapes
 pub mod Rows
 pub mod Loads
+pub mod Bitmaps
+pub mod BitmapBytes
+pub mod Changes
 pub mod Calls
 pub mod Finals
+pub mod Sessions
+pub mod Installs
 pub mod Records
 pub mod Fronts
 pub mod Lengths
+pub mod Growing

@@ -1,25 +1,33 @@
 -- The readers of heads, changes, splits and records read them exactly.
-use Rattle.std.proofs.Common.{◌≡◌, ◌∙◌, sym, ap, subst, refl, ℕ, ◌-◌, ◌^◌, ◌<◌, ◌≤◌, ◌==◌, true, cond, List, [], ◌∷◌, ◌++◌, length, lit≤, lit<, arith, if◌then◌else◌, nat_lt, Ok}
+use Rattle.std.proofs.Common.{◌≡◌, ◌∙◌, sym, ap, subst, refl, ℕ, ◌-◌, ◌^◌, ◌<◌, ◌≤◌, ◌==◌, Bool, true, false, cond, List, [], ◌∷◌, ◌++◌, length, lit≤, lit<, arith, if◌then◌else◌, nat_lt, Ok}
 use Rattle.std.specs.Int.{w32, w64, to_be_bytes}
 use Rattle.std.proofs.Math.Nat.{pow-le-pow_right}
 use Rattle.std.proofs.lemmas.Bool.Decides.{nat_tests}
 use Rattle.std.proofs.lemmas.Bool.{and_parts, and_from}
 use Rattle.std.proofs.lemmas.List.{append-nil}
+use Rattle.bitmap.specs.Bits.{Bits}
 use Rattle.mds_base.specs.declared.call.Call.{Call}
 use Rattle.mds_base.specs.declared.reply.Final.{Final}
+use Rattle.mds_base.specs.declared.row.Row.{Row}
+use Rattle.mds_base.specs.declared.session.Session.{Session}
 use Rattle.records.specs.declared.kinds.TheConstants as kinds
 use Rattle.records.specs.declared.record.Record.{Record}
 use Rattle.records.specs.declared.record.Record.TheVariants as records
 use Rattle.records.specs.declared.record.Record.TheVariants.{Head, Served, Begin, Install, End}
-use Rattle.records.specs.Spelling.{IsChangeBut, IsHead, IsServed, IsSplit, call_spelling, final_spelling, split_spelling, SpellsBut}
+use Rattle.records.specs.Spelling.{IsHead, IsServed, IsSplit, call_spelling, final_spelling, split_spelling, install_kind, SpellsBut}
+use Rattle.records.specs.Installs.{install_spelling}
+use Rattle.records.specs.LeastFormats.{some_stamped_of}
 use Rattle.records.specs.Faults.{◌>>=◌}
-use Rattle.records.specs.Reading.{call_at, final_at, head_at, served_at, is_depth, split_at, record_kinds, record_after, record_at}
-use Rattle.records.proofs.Decoding.{Follows, Seq, Ends, follows_here, both_follow, same_follows}
-use Rattle.records.proofs.ToCome.{Waits, Opens, Reads, Then, Goes, goes_plainly, go_in_turn, same_goes, goes_by_test}
+use Rattle.records.specs.Reading.{call_at, final_at}
+use Rattle.records.specs.ReadingRecords.{head_at, served_at, is_depth, split_at, record_kinds, record_after, record_at}
+use Rattle.records.proofs.Decoding.{Follows, Seq, Ends, follows_here, same_follows}
+use Rattle.records.proofs.ToCome.{both_follow, Waits, Opens, Reads, Then, Goes, goes_plainly, go_in_turn, same_goes, goes_by_test}
 use Rattle.records.proofs.Fields.{OneByte, is_among, among_reads, NumberOf, number_reads}
 use Rattle.records.proofs.Shapes.{Shape, Done, Byte, Number, Of, Sound, shape_reads, AllOf, each_of}
+use Rattle.records.proofs.Changes.{ChangeParts, change_parts, change_is}
 use Rattle.records.proofs.Calls.{directory, in_directory, of_directory, lt_on, lt_of, CallText, call_goes, go_after}
 use Rattle.records.proofs.Finals.{FinalText, final_reads, final_opens}
+use Rattle.records.proofs.Installs.{InstallText, install_goes}
 
 -- ---- heads
 
@@ -119,7 +127,7 @@ AnsweredParts made = Then CallText (λ call _. Seq (FinalText call) (λ said. En
 answered_goes : (made : Call → Final → Record) → Goes (AnsweredParts made) (λ bytes. call_at bytes >>= λ call. final_at call.0 call.1 >>= λ said. Ok (made call.0 said.0, said.1))
 answered_goes made = go_in_turn call_goes (λ text call s. (goes_plainly (both_follow (final_reads call s.change) (λ t said f. follows_here (made call said)))).reads) (λ n text call s. answered_opens n call s.change)
   where
-    answered_opens : (n : ℕ) (call : Call) → IsChangeBut n call → Opens (λ _. Seq (FinalText call) (λ said. Ends (made call said)))
+    answered_opens : (n : ℕ) (call : Call) → ChangeParts n call → Opens (λ _. Seq (FinalText call) (λ said. Ends (made call said)))
     answered_opens n call change =
         let o = final_opens n call change in
         record { waits = record { looser = λ m n text item le s. s }; text = o.text; value = made call o.value; spelled = record { front = o.text; back = []; value = o.value; parts = sym (append-nil o.text); first = o.spelled; second = record { none = refl; is = refl } } }
@@ -148,7 +156,7 @@ served_there n text item s =
       call = c.value;
       said = f.value;
       item_is = f.second.is;
-      served = record { some_client = s.first.low; few_clients = s.first.high; from_one = q.first.low; fits = omega arith; below = omega arith; change = subst (λ (m : ℕ). IsChangeBut m c.value) nine c.first.change; reply = f.first.reply; numbered = f.first.numbered };
+      served = record { some_client = s.first.low; few_clients = s.first.high; from_one = q.first.low; fits = omega arith; below = omega arith; change = change_is (n - 9) c.value (subst (λ (m : ℕ). ChangeParts m c.value) nine c.first.change); reply = f.first.reply; numbered = f.first.numbered };
       text_is = s.parts ∙ ap (λ (u : List ℕ). u ++ s.back) s.first.text_is ∙ ap (λ (u : List ℕ). to_be_bytes w32 s.value ++ u) (q.parts ∙ ap (λ (u : List ℕ). u ++ q.back) q.first.text_is
           ∙ ap (λ (u : List ℕ). to_be_bytes w64 q.value ++ u) (p.parts ∙ ap (λ (u : List ℕ). u ++ p.back) p.first.text_is
           ∙ ap (λ (u : List ℕ). to_be_bytes w32 p.value ++ u) (c.parts ∙ ap (λ (u : List ℕ). u ++ c.back) c.first.text_is ∙ ap (λ (u : List ℕ). call_spelling c.value ++ u) end)));
@@ -182,7 +190,7 @@ served_back n text item s =
             back = final_spelling s.said;
             value = s.call;
             parts = refl;
-            first = record { change = v.change; text_is = refl };
+            first = record { change = change_parts (n - 9) s.call v.change; text_is = refl };
             second = record {
               front = final_spelling s.said;
               back = [];
@@ -240,11 +248,13 @@ split_read kind dir part depth s =
 -- ---- records
 
 abbrev RecordBody : ℕ → ℕ → List ℕ → Record → Type 0
-RecordBody kind n text item = cond (kind == kinds.RECORD_HEAD) (HeadText text item) (cond (kind == kinds.RECORD_OPENED) (Ends records.Opened text item) (cond (kind == kinds.RECORD_SERVED) (ServedText n text item) (Of (split_shape kind) text item)))
+RecordBody kind n text item = cond (kind == kinds.RECORD_HEAD) (HeadText text item) (cond (kind == kinds.RECORD_OPENED) (Ends records.Opened text item) (cond (kind == kinds.RECORD_SERVED) (ServedText n text item)
+    (cond (kind == kinds.RECORD_INSTALL) (InstallText false n text item) (cond (kind == kinds.RECORD_INSTALL_STAMPED) (InstallText true n text item) (Of (split_shape kind) text item)))))
 
 body_goes : (kind : ℕ) → Goes (RecordBody kind) (record_after kind)
 unfolding record_after
-body_goes kind = goes_by_test (kind == kinds.RECORD_HEAD) (λ _. goes_plainly head_reads) (λ _. goes_by_test (kind == kinds.RECORD_OPENED) (λ _. goes_plainly (follows_here records.Opened)) (λ _. goes_by_test (kind == kinds.RECORD_SERVED) (λ _. served_goes) (λ _. goes_plainly (split_reads kind))))
+body_goes kind = goes_by_test (kind == kinds.RECORD_HEAD) (λ _. goes_plainly head_reads) (λ _. goes_by_test (kind == kinds.RECORD_OPENED) (λ _. goes_plainly (follows_here records.Opened)) (λ _. goes_by_test (kind == kinds.RECORD_SERVED) (λ _. served_goes)
+    (λ _. goes_by_test (kind == kinds.RECORD_INSTALL) (λ _. install_goes false) (λ _. goes_by_test (kind == kinds.RECORD_INSTALL_STAMPED) (λ _. install_goes true) (λ _. goes_plainly (split_reads kind))))))
 
 abbrev RecordParts : ℕ → List ℕ → Record → Type 0
 RecordParts = Then (λ _. OneByte (is_among record_kinds)) RecordBody
@@ -269,11 +279,19 @@ served_body n text item v = subst (SpellsBut n (kinds.RECORD_SERVED ∷ text)) (
 begin_body : IsBody kinds.RECORD_BEGIN
 begin_body n text item o = let m = split_made kinds.RECORD_BEGIN text item o in subst (SpellsBut n (kinds.RECORD_BEGIN ∷ text)) (sym m.3) (m.4, ap (λ (t : List ℕ). kinds.RECORD_BEGIN ∷ t) m.5)
 
+install_body : IsBody kinds.RECORD_INSTALL
+install_body n text item i = subst (SpellsBut n (kinds.RECORD_INSTALL ∷ text)) (sym i.item_is)
+    (i.install, ap (λ (t : List ℕ). kinds.RECORD_INSTALL ∷ t) i.text_is ∙ ap (λ (b : Bool). install_kind b ∷ install_spelling i.dir i.part i.depth i.bitmap i.sessions i.rows) (sym i.stamped_is))
+
+stamped_body : IsBody kinds.RECORD_INSTALL_STAMPED
+stamped_body n text item i = subst (SpellsBut n (kinds.RECORD_INSTALL_STAMPED ∷ text)) (sym i.item_is)
+    (i.install, ap (λ (t : List ℕ). kinds.RECORD_INSTALL_STAMPED ∷ t) i.text_is ∙ ap (λ (b : Bool). install_kind b ∷ install_spelling i.dir i.part i.depth i.bitmap i.sessions i.rows) (sym i.stamped_is))
+
 end_body : IsBody kinds.RECORD_END
 end_body n text item o = let m = split_made kinds.RECORD_END text item o in subst (SpellsBut n (kinds.RECORD_END ∷ text)) (sym m.3) (m.4, ap (λ (t : List ℕ). kinds.RECORD_END ∷ t) m.5)
 
 bodies : AllOf IsBody record_kinds
-bodies = (head_body, (opened_body, (served_body, (begin_body, (end_body, tt)))))
+bodies = (head_body, (opened_body, (served_body, (begin_body, (install_body, (end_body, (stamped_body, tt)))))))
 
 record_there : (n : ℕ) (text : List ℕ) (item : Record) → RecordParts n text item → SpellsBut n text item
 record_there n text item s = subst (λ (t : List ℕ). SpellsBut n t item) (sym (s.parts ∙ ap (λ (t : List ℕ). t ++ s.back) s.first.text_is)) (each_of IsBody record_kinds bodies s.value s.first.passes n s.back item s.second)
@@ -281,6 +299,15 @@ record_there n text item s = subst (λ (t : List ℕ). SpellsBut n t item) (sym 
 -- a kind, and what follows it
 body_of : (kind n : ℕ) (text back : List ℕ) (item : Record) → kind < 256 → is_among record_kinds kind ≡ true → text ≡ kind ∷ back → RecordBody kind n back item → RecordParts n text item
 body_of kind n text back item byte among is body = record { front = kind ∷ []; back = back; value = kind; parts = is; first = record { text_is = refl; byte = byte; passes = among }; second = body }
+
+-- an Install is read by the kind that its rows ask for
+install_parts : (n : ℕ) (text : List ℕ) (dir part depth : ℕ) (bitmap : Bits) (sessions : List Session) (rows : List Row) → SpellsBut n text (Install dir part depth bitmap sessions rows) → (b : Bool) → some_stamped_of rows ≡ b → RecordParts n text (Install dir part depth bitmap sessions rows)
+install_parts n text dir part depth bitmap sessions rows s false is =
+    body_of kinds.RECORD_INSTALL n text (install_spelling dir part depth bitmap sessions rows) (Install dir part depth bitmap sessions rows) (lit< tt) refl (s.1 ∙ ap (λ (b : Bool). install_kind b ∷ install_spelling dir part depth bitmap sessions rows) is)
+    (record { dir = dir; part = part; depth = depth; bitmap = bitmap; sessions = sessions; rows = rows; item_is = refl; install = s.0; stamped_is = is; text_is = refl })
+install_parts n text dir part depth bitmap sessions rows s true is =
+    body_of kinds.RECORD_INSTALL_STAMPED n text (install_spelling dir part depth bitmap sessions rows) (Install dir part depth bitmap sessions rows) (lit< tt) refl (s.1 ∙ ap (λ (b : Bool). install_kind b ∷ install_spelling dir part depth bitmap sessions rows) is)
+    (record { dir = dir; part = part; depth = depth; bitmap = bitmap; sessions = sessions; rows = rows; item_is = refl; install = s.0; stamped_is = is; text_is = refl })
 
 record_back : (n : ℕ) (text : List ℕ) (item : Record) → SpellsBut n text item → RecordParts n text item
 record_back n text (Head format servers server threshold) s = body_of kinds.RECORD_HEAD n text (format ∷ (to_be_bytes w32 servers ++ (to_be_bytes w32 server ++ to_be_bytes w32 threshold))) (Head format servers server threshold) (lit< tt) refl s.1 (record { format = format; servers = servers; server = server; threshold = threshold; item_is = refl; head = s.0; text_is = refl })
@@ -290,7 +317,7 @@ record_back n text (Served client seq part call said) s =
     (record { client = client; seq = seq; part = part; call = call; said = said; item_is = refl; served = s.0; text_is = refl })
 record_back n text (Begin dir part depth) s = body_of kinds.RECORD_BEGIN n text (split_spelling dir part depth) (Begin dir part depth) (lit< tt) refl s.1 (split_read kinds.RECORD_BEGIN dir part depth s.0)
 record_back n text (End dir part depth) s = body_of kinds.RECORD_END n text (split_spelling dir part depth) (End dir part depth) (lit< tt) refl s.1 (split_read kinds.RECORD_END dir part depth s.0)
-record_back n text (Install dir part depth bitmap sessions rows) s = absurd s.0
+record_back n text (Install dir part depth bitmap sessions rows) s = install_parts n text dir part depth bitmap sessions rows s (some_stamped_of rows) refl
 
 pub record_goes : Goes SpellsBut record_at
 record_goes = same_goes record_there record_back record_parts

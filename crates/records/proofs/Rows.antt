@@ -1,5 +1,5 @@
 -- The readers of rows read them exactly, and rows that rise have different names.
-use Rattle.std.proofs.Common.{◌≡◌, ◌∙◌, sym, ap, subst, refl, ℕ, zero, suc, ◌-◌, ◌^◌, ◌<◌, ◌≤◌, ◌==◌, ◌&&◌, ◌||◌, not, Bool, true, false, cond, List, [], ◌∷◌, ◌++◌, append_assoc, length, lit≤, lit<, arith, Ok, Option, Some, None}
+use Rattle.std.proofs.Common.{◌≡◌, ◌∙◌, sym, ap, subst, refl, ℕ, zero, suc, ◌-◌, ◌^◌, ◌<◌, ◌≤◌, ◌==◌, ◌&&◌, ◌||◌, not, Bool, true, false, cond, List, [], ◌∷◌, ◌++◌, append_assoc, length, lit≤, lit<, arith, Option, Some, None}
 use Rattle.std.specs.Prelude.{IsTrue}
 use Rattle.std.specs.Int.{w32, to_be_bytes}
 use Rattle.std.specs.List.{AllByRecursion, flat_map, slice_get}
@@ -10,9 +10,6 @@ use Rattle.mds_base.proofs.Grow.{get_last}
 use Rattle.mds_base.specs.declared.row.Row.{Row}
 use Rattle.mds_base.specs.Entries.{is_stamped}
 use Rattle.mds_base.specs.Name.{is_name}
-use Rattle.records.specs.declared.fault.Stop.{Stop}
-use Rattle.records.specs.declared.fault.Stop.TheVariants as stops
-use Rattle.records.specs.Faults.{◌>>=◌, Fails}
 use Rattle.records.specs.LeastFormats.{some_stamped_of}
 use Rattle.records.specs.Rows.{attr_spelling, row_spelling, rows_spelling, IsStamped, IsRow, last_of, comes_after, AreRising}
 use Rattle.records.specs.Reading.{rising_at, row_with, stamp_at, attr_at, must_be_stamped, row_at, list_after, rows_at}
@@ -291,18 +288,3 @@ counted_back stamped least most missing text rows t = record {
 
 pub rows_read : (stamped : Bool) (least most : ℕ) → least ≤ most → most < 2 ^ 32 → Goes (RowsText stamped least most) (rows_at stamped least most)
 rows_read stamped least most le fits = same_goes (counted_there stamped least most) (counted_back stamped least most) (counted_go stamped least most le fits)
-
--- ---- one row after another
-
-pub list_step : (stamped : Bool) (so_far : List Row) (left : ℕ) (bytes : List ℕ) (row : Row) (rest : List ℕ) → row_at stamped so_far left bytes ≡ Ok (row, rest) → list_after (row_at stamped) so_far (suc left) bytes ≡ list_after (row_at stamped) (so_far ++ row ∷ []) left rest
-unfolding list_after
-list_step stamped so_far left bytes row rest e = ap (λ r. r >>= λ x. list_after (row_at stamped) (so_far ++ x.0 ∷ []) left x.1) e
-
-pub list_fails : (stamped : Bool) (so_far : List Row) (left : ℕ) (bytes : List ℕ) (stop : Stop) → Fails stop (row_at stamped so_far left bytes) → Fails stop (list_after (row_at stamped) so_far (suc left) bytes)
-unfolding list_after
-list_fails stamped so_far left bytes stops.Memory e = tt
-list_fails stamped so_far left bytes (stops.Fault fault) e = ap (λ r. r >>= λ x. list_after (row_at stamped) (so_far ++ x.0 ∷ []) left x.1) e
-
-pub list_done : (stamped : Bool) (so_far : List Row) (bytes : List ℕ) → list_after (row_at stamped) so_far 0 bytes ≡ Ok (so_far, bytes)
-unfolding list_after
-list_done stamped so_far bytes = refl

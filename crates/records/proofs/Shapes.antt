@@ -8,7 +8,8 @@ use Rattle.mds_base.specs.Name.{is_name}
 use Rattle.records.specs.declared.fault.Fault.{Fault}
 use Rattle.records.specs.Faults.{◌>>=◌}
 use Rattle.records.specs.Reading.{byte_where, number_at, name_at}
-use Rattle.records.proofs.Decoding.{Follows, follows_here, by_test, both_follow, same_follows}
+use Rattle.records.proofs.ToCome.{both_follow}
+use Rattle.records.proofs.Decoding.{Follows, follows_here, by_test, same_follows}
 use Rattle.records.proofs.Fields.{is_among, byte_reads, number_reads, name_reads}
 
 -- what is read: a byte that passes a test, a number of so many bytes within a range, a name; and how it goes on

@@ -6,9 +6,11 @@ use Rattle.std.proofs.lemmas.Bool.{cases_lt}
 use Rattle.std.proofs.lemmas.List.{append-nil, length-append}
 use Rattle.records.specs.declared.fault.Fault.{Fault}
 use Rattle.records.specs.declared.fault.Fault.TheVariants.{Short, Bad}
-use Rattle.records.specs.Faults.{◌>>=◌}
+use Rattle.records.specs.declared.fault.Stop.{Stop}
+use Rattle.records.specs.declared.fault.Stop.TheVariants as stops
+use Rattle.records.specs.Faults.{◌>>=◌, Fails}
 use Rattle.records.specs.Reading.{list_after}
-use Rattle.records.proofs.Decoding.{IsBytes, Takes, Decodes, Follows, Ends, ends_here, Splits, split_front, bytes_after, bind_ok, bind_err, same_ok, not_both, failed}
+use Rattle.records.proofs.Decoding.{IsBytes, Takes, Decodes, Follows, Seq, Ends, ends_here, Splits, split_front, bytes_after, bind_ok, bind_err, same_ok, not_both, failed}
 
 -- the bytes are a proper prefix of what may become a spelling
 pub record Started {X : Type 0} (G : ℕ → List ℕ → X → Type 0) (bytes : List ℕ) : Type 0 where
@@ -392,6 +394,38 @@ go_in_turn one next on =
       };
     }
 
+-- ---- the same of grammars that ask nothing of bytes to come
+
+module _ {X Y : Type 0} {G : List ℕ → X → Type 0} {H : X → List ℕ → Y → Type 0} where
+  to_seq : (n : ℕ) (text : List ℕ) (y : Y) → Then (λ _. G) (λ x _. H x) n text y → Seq G H text y
+  to_seq n text y s = record { front = s.front; back = s.back; value = s.value; parts = s.parts; first = s.first; second = s.second }
+
+  to_then : (n : ℕ) (text : List ℕ) (y : Y) → Seq G H text y → Then (λ _. G) (λ x _. H x) n text y
+  to_then n text y s = record { front = s.front; back = s.back; value = s.value; parts = s.parts; first = s.first; second = s.second }
+
+  pub in_turn : {f : List ℕ → Result (X × List ℕ) Fault} {g : X → List ℕ → Result (Y × List ℕ) Fault} → Decodes G f → ((text : List ℕ) (x : X) → G text x → Follows (H x) (g x)) → Decodes (Seq G H) (λ bytes. f bytes >>= λ p. g p.0 p.1)
+  in_turn one next =
+      let r = reads_in_turn (plainly one) (record { looser = λ m n text x le s. s }) (λ text x s. plainly (next text x s).decodes) (λ n text x s. (goes_plainly (next text x s)).opens) in
+      record {
+        found = λ bytes y rest fits e. let t = r.found bytes y rest fits e in record { text = t.text; parts = t.parts; spelled = to_seq 0 t.text y t.spelled };
+        again = λ text y rest s. r.again text y rest (to_then 0 text y s);
+        short = λ bytes fits e. let b = r.short bytes fits e in record { more = b.more; value = b.value; some = b.some; spelled = to_seq (length b.more) (bytes ++ b.more) b.value b.spelled };
+        bad = λ bytes left fits e. let s = r.bad bytes left fits e in record {
+          front = s.front;
+          byte = s.byte;
+          rest = s.rest;
+          parts = s.parts;
+          left_is = s.left_is;
+          begun = record { more = s.started.more; value = s.started.value; some = s.started.some; spelled = to_seq (length s.started.more) (s.front ++ s.started.more) s.started.value s.started.spelled };
+          never = λ more y k. s.never more y (to_then (length more) (s.front ++ s.byte ∷ more) y k);
+        };
+      }
+
+  pub both_follow : {f : List ℕ → Result (X × List ℕ) Fault} {g : X → List ℕ → Result (Y × List ℕ) Fault} → Follows G f → ((text : List ℕ) (x : X) → G text x → Follows (H x) (g x)) → Follows (Seq G H) (λ bytes. f bytes >>= λ p. g p.0 p.1)
+  both_follow one next =
+      let n = next one.text one.value one.spelled in
+      record { decodes = in_turn one.decodes next; text = one.text ++ n.text; value = n.value; spelled = record { front = one.text; back = n.text; value = one.value; parts = refl; first = one.spelled; second = n.spelled } }
+
 -- another word for a grammar
 pub same_goes : {X : Type 0} {G K : ℕ → List ℕ → X → Type 0} {f : List ℕ → Result (X × List ℕ) Fault} → ((n : ℕ) (text : List ℕ) (x : X) → G n text x → K n text x) → ((n : ℕ) (text : List ℕ) (x : X) → K n text x → G n text x) → Goes G f → Goes K f
 same_goes there back one =
@@ -441,3 +475,18 @@ module _ {X : Type 0} {G : List X → ℕ → ℕ → List ℕ → X → Type 0}
   list_goes so_far (suc left) good = go_in_turn (each so_far left good)
       (λ text x s. (list_goes (so_far ++ x ∷ []) left (kept so_far left 0 text x good s)).reads)
       (λ n text x s. (list_goes (so_far ++ x ∷ []) left (kept so_far left n text x good s)).opens)
+
+-- ---- one element after another, as a loop reads them
+
+pub list_step : {X : Type 0} (item : List X → ℕ → List ℕ → Result (X × List ℕ) Fault) (so_far : List X) (left : ℕ) (bytes : List ℕ) (x : X) (rest : List ℕ) → item so_far left bytes ≡ Ok (x, rest) → list_after item so_far (suc left) bytes ≡ list_after item (so_far ++ x ∷ []) left rest
+unfolding list_after
+list_step item so_far left bytes x rest e = ap (λ r. r >>= λ y. list_after item (so_far ++ y.0 ∷ []) left y.1) e
+
+pub list_fails : {X : Type 0} (item : List X → ℕ → List ℕ → Result (X × List ℕ) Fault) (so_far : List X) (left : ℕ) (bytes : List ℕ) (stop : Stop) → Fails stop (item so_far left bytes) → Fails stop (list_after item so_far (suc left) bytes)
+unfolding list_after
+list_fails item so_far left bytes stops.Memory e = tt
+list_fails item so_far left bytes (stops.Fault fault) e = ap (λ r. r >>= λ y. list_after item (so_far ++ y.0 ∷ []) left y.1) e
+
+pub list_done : {X : Type 0} (item : List X → ℕ → List ℕ → Result (X × List ℕ) Fault) (so_far : List X) (bytes : List ℕ) → list_after item so_far 0 bytes ≡ Ok (so_far, bytes)
+unfolding list_after
+list_done item so_far bytes = refl

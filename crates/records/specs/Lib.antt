@@ -1,6 +1,11 @@
 pub mod Messages
+pub mod FinalBytes
 pub mod Rows
+pub mod Installs
 pub mod Spelling
+pub mod Writing
 pub mod Faults
 pub mod Reading
+pub mod ReadingInstalls
+pub mod ReadingRecords
 pub mod LeastFormats

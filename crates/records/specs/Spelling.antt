@@ -1,12 +1,12 @@
 -- Records as bytes: which records have a spelling, and the one spelling of each. It knows no reader and no writer.
-use Rattle.std.specs.Prelude.{◌≡◌, ℕ, ◌+◌, ◌-◌, ◌<◌, ◌≤◌, ◌^◌, ◌*◌, List, [], ◌∷◌, ◌++◌, length, take, Option, Some, None, Result, Err, IsTrue, false}
+use Rattle.std.specs.Prelude.{◌≡◌, ℕ, ◌+◌, ◌-◌, ◌<◌, ◌≤◌, ◌^◌, List, [], ◌∷◌, ◌++◌, length, take, Option, Some, None, Result, Err, IsTrue, Bool, true, false}
 use Rattle.std.specs.Int.{w16, w32, w64, to_be_bytes}
 use Rattle.mds_base.specs.declared.attr.Stamp.{Stamp}
 use Rattle.mds_base.specs.declared.call.Call.{Call}
-use Rattle.mds_base.specs.declared.call.Call.TheVariants.{Create, Mkdir, Remove, Lookup, Setattr, Scan, Grab, Load, Link, Seal, Unseal, Kill, Unlink}
+use Rattle.mds_base.specs.declared.call.Call.TheVariants.{Create, Mkdir, Remove, Setattr, Grab, Load, Link, Seal, Unseal, Kill, Unlink}
 use Rattle.mds_base.specs.declared.reply.Final.{Final}
-use Rattle.mds_base.specs.declared.reply.Final.TheVariants.{Created, CreatedDir, Exists, Removed, Missing, IsDir, Set, Ids, Loaded, Stale, Sealed, NotEmpty, Late, Opened, Killed}
 use Rattle.mds_base.specs.declared.reply.Reply.TheVariants.{Said}
+use Rattle.mds_base.specs.Calls.{CallOn, OnName, OnDirectory, OnPartition, asked_of, is_well_made}
 use Rattle.mds_base.specs.Name.{is_name}
 use Rattle.mds_base.specs.Entries.{Entries}
 use Rattle.mds_base.specs.declared.row.Row.{Row}
@@ -16,43 +16,52 @@ use Rattle.records.specs.declared.fault.RecordFault.{RecordFault}
 use Rattle.records.specs.declared.fault.RecordFault.TheVariants.{OutOfMemory}
 use Rattle.records.specs.declared.kinds.TheConstants as kinds
 use Rattle.records.specs.declared.record.Record.{Record}
+pub use Rattle.records.specs.FinalBytes.{IsDirectory, IsNumbered, tag_of, number_of, final_spelling}
+use Rattle.records.specs.Installs.{IsInstall, install_spelling}
+use Rattle.records.specs.LeastFormats.{some_stamped_of}
 use Rattle.records.specs.Rows.{name_spelling, rows_spelling, IsRow, AreRising}
 use Rattle.records.specs.declared.record.Record.TheVariants as records
 use Rattle.records.specs.declared.record.Record.TheVariants.{Head, Served, Begin, Install, End}
 
 -- ---- what has a spelling
 
--- a directory number
-abbrev pub IsDirectory : ℕ → Type 0
-IsDirectory dir = (1 ≤ dir) × (dir < 2 ^ 48)
-
 -- the owner and the time of a stamp are within their widths
 abbrev pub IsStamp : Option Stamp → Type 0
 IsStamp None = Unit {0}
 IsStamp (Some stamp) = (stamp.owner < 2 ^ 32) × (stamp.mtime < 2 ^ 64)
 
--- the rows of a load: 1 to 4096 that rise, without stamps
+-- the rows of a load rise, without stamps
 pub record IsLoad (missing : ℕ) (rows : List Row) : Type 0 where
-  pub some : 1 ≤ length rows
-  pub few : length rows ≤ 4096
   pub rising : AreRising false missing None rows
   pub each : AllByRecursion (IsRow false) rows
 
--- a call that a log keeps, as far as can be said while the last `missing` bytes of its spelling are still to come
-abbrev pub IsChangeBut : ℕ → Call → Type 0
-IsChangeBut missing (Create dir name) = IsDirectory dir × IsTrue (is_name name)
-IsChangeBut missing (Mkdir dir name) = IsDirectory dir × IsTrue (is_name name)
-IsChangeBut missing (Remove dir name) = IsDirectory dir × IsTrue (is_name name)
-IsChangeBut missing (Setattr dir name mode size stamp) = IsDirectory dir × IsTrue (is_name name) × (mode ≤ 4095) × (size < 2 ^ 64) × IsStamp stamp
-IsChangeBut missing (Lookup dir name) = ⊥
-IsChangeBut missing (Scan dir) = ⊥
-IsChangeBut missing (Grab dir name count) = IsDirectory dir × IsTrue (is_name name) × (1 ≤ count) × (count ≤ 4096)
-IsChangeBut missing (Load dir rows) = IsDirectory dir × IsLoad missing rows
-IsChangeBut missing (Link dir name id) = IsDirectory dir × IsTrue (is_name name) × IsDirectory id
-IsChangeBut missing (Seal dir part epoch) = IsDirectory dir × (part < 1024) × (epoch < 2 ^ 48)
-IsChangeBut missing (Unseal dir part epoch) = IsDirectory dir × (part < 1024) × (epoch < 2 ^ 48)
-IsChangeBut missing (Kill dir epoch) = IsDirectory dir × (epoch < 2 ^ 48)
-IsChangeBut missing (Unlink dir name id) = IsDirectory dir × IsTrue (is_name name) × IsDirectory id
+-- whether what a call is on is changed by it
+abbrev pub is_change : CallOn → Bool
+is_change (OnName dir name changes) = changes
+is_change (OnDirectory dir) = false
+is_change (OnPartition dir part) = true
+
+-- the parts of a call are what its types allow: its name, the size and the stamp that a setattr sets, the rows of a load
+abbrev pub IsNamed : CallOn → Type 0
+IsNamed (OnName dir name changes) = IsTrue (is_name name)
+IsNamed on = Unit {0}
+
+abbrev pub FitsItsTypes : Call → Type 0
+FitsItsTypes (Setattr dir name mode size stamp) = (size < 2 ^ 64) × IsStamp stamp
+FitsItsTypes call = Unit {0}
+
+abbrev pub HasItsRows : ℕ → Call → Type 0
+HasItsRows missing (Load dir rows) = IsLoad missing rows
+HasItsRows missing call = Unit {0}
+
+-- a call that a log keeps, as far as can be said while the last `missing` bytes of its spelling are still to come: a
+-- change that is well made
+pub record IsChangeBut (missing : ℕ) (call : Call) : Type 0 where
+  pub changes : IsTrue (is_change (asked_of call))
+  pub made : IsTrue (is_well_made call)
+  pub named : IsNamed (asked_of call)
+  pub fits : FitsItsTypes call
+  pub rows : HasItsRows missing call
 
 -- a call that a log keeps
 abbrev pub IsChange : Call → Type 0
@@ -61,14 +70,6 @@ IsChange call = IsChangeBut 0 call
 -- a final that the plain rules allow for the call on some map
 abbrev pub MaySay : Call → Final → Type 0
 MaySay call said = (entries : Entries) × Allows entries call (Said said)
-
--- the number of a final is in its range
-abbrev pub IsNumbered : Final → Type 0
-IsNumbered (CreatedDir number) = IsDirectory number
-IsNumbered (Ids first) = (2 ≤ first) × (first ≤ 2 ^ 45)
-IsNumbered (Loaded count) = count ≤ 4096
-IsNumbered (Sealed depth epoch) = (depth ≤ 14) × (epoch < 2 ^ 48)
-IsNumbered said = Unit {0}
 
 -- the head of a log of the first format
 pub record IsHead (format servers server threshold : ℕ) : Type 0 where
@@ -102,7 +103,7 @@ IsRecordBut missing (Head format servers server threshold) = IsHead format serve
 IsRecordBut missing records.Opened = Unit {0}
 IsRecordBut missing (Served client seq part call said) = IsServed missing client seq part call said
 IsRecordBut missing (Begin dir part depth) = IsSplit dir part depth
-IsRecordBut missing (Install dir part depth bitmap sessions rows) = ⊥
+IsRecordBut missing (Install dir part depth bitmap sessions rows) = IsInstall missing dir part depth bitmap sessions rows
 IsRecordBut missing (End dir part depth) = IsSplit dir part depth
 
 -- a record that has a spelling
@@ -127,37 +128,14 @@ call_spelling (Kill dir epoch) = kinds.CALL_KILL ∷ (to_be_bytes w64 dir ++ to_
 call_spelling (Unlink dir name id) = kinds.CALL_UNLINK ∷ (to_be_bytes w64 dir ++ (name_spelling name ++ to_be_bytes w64 id))
 call_spelling call = []
 
-abbrev pub tag_of : Final → ℕ
-tag_of Created = kinds.FINAL_CREATED
-tag_of (CreatedDir number) = kinds.FINAL_CREATED_DIR
-tag_of Exists = kinds.FINAL_EXISTS
-tag_of Removed = kinds.FINAL_REMOVED
-tag_of Missing = kinds.FINAL_MISSING
-tag_of IsDir = kinds.FINAL_IS_DIR
-tag_of Set = kinds.FINAL_SET
-tag_of (Ids first) = kinds.FINAL_IDS
-tag_of (Loaded count) = kinds.FINAL_LOADED
-tag_of Stale = kinds.FINAL_STALE
-tag_of (Sealed depth epoch) = kinds.FINAL_SEALED
-tag_of NotEmpty = kinds.FINAL_NOT_EMPTY
-tag_of Late = kinds.FINAL_LATE
-tag_of Opened = kinds.FINAL_OPENED
-tag_of Killed = kinds.FINAL_KILLED
-
--- the number of a final, 0 where it has none
-abbrev pub number_of : Final → ℕ
-number_of (CreatedDir number) = number
-number_of (Ids first) = first
-number_of (Loaded count) = count
-number_of (Sealed depth epoch) = 16 * epoch + depth
-number_of said = 0
-
-abbrev pub final_spelling : Final → List ℕ
-final_spelling said = tag_of said ∷ to_be_bytes w64 (number_of said)
-
 -- the directory, the partition and the depth of a split
 abbrev pub split_spelling : ℕ → ℕ → ℕ → List ℕ
 split_spelling dir part depth = to_be_bytes w64 dir ++ (to_be_bytes w32 part ++ depth ∷ [])
+
+-- the kind of an Install goes by whether a row has a stamp
+abbrev pub install_kind : Bool → ℕ
+install_kind false = kinds.RECORD_INSTALL
+install_kind true = kinds.RECORD_INSTALL_STAMPED
 
 -- the kind of a record, and its fields
 abbrev pub record_spelling : Record → List ℕ
@@ -166,7 +144,7 @@ record_spelling records.Opened = kinds.RECORD_OPENED ∷ []
 record_spelling (Served client seq part call said) = kinds.RECORD_SERVED ∷ (to_be_bytes w32 client ++ (to_be_bytes w64 seq ++ (to_be_bytes w32 part ++ (call_spelling call ++ final_spelling said))))
 record_spelling (Begin dir part depth) = kinds.RECORD_BEGIN ∷ split_spelling dir part depth
 record_spelling (End dir part depth) = kinds.RECORD_END ∷ split_spelling dir part depth
-record_spelling (Install dir part depth bitmap sessions rows) = []
+record_spelling (Install dir part depth bitmap sessions rows) = install_kind (some_stamped_of rows) ∷ install_spelling dir part depth bitmap sessions rows
 
 -- these bytes spell the record, as far as can be said while the last `missing` of them are still to come
 abbrev pub SpellsBut : ℕ → List ℕ → Record → Type 0

@@ -12,8 +12,14 @@ pub const RECORD_SERVED: u8 = 3;
 /// The kind of the begin of a split.
 pub const RECORD_BEGIN: u8 = 4;
 
+/// The kind of the child of a split, of whose rows none has a stamp.
+pub const RECORD_INSTALL: u8 = 5;
+
 /// The kind of the end of a split.
 pub const RECORD_END: u8 = 6;
+
+/// The kind of the child of a split, of whose rows some has a stamp.
+pub const RECORD_INSTALL_STAMPED: u8 = 7;
 
 /// The kind of a create.
 pub const CALL_CREATE: u8 = 1;

@@ -1,7 +1,8 @@
 //! What a server writes to its log, and what servers and clients send to each other.
 //!
-//! It stands on `mds_base`, and on `bitmap` for what redirects carry. A `Record` has one spelling as bytes (`docs/FORMATS.md`, "Records"), which `write`
-//! appends and `read` reads; messages are values, and have no byte form. The contract for the layers above: `read`
+//! It stands on `mds_base`, on `chains` and `name_hash` for the order of rows, and on `bitmap` for what messages and
+//! Installs carry. A `Record` has one spelling as bytes (`docs/FORMATS.md`, "Records"), which `write` appends and
+//! `read` reads; messages are values, and have no byte form. The contract for the layers above: `read`
 //! gives the record whose spelling begins the bytes and that spelling's length, `Short` exactly where the bytes are
 //! a proper prefix of some spelling, and `Bad` with the first byte after which no spelling can follow; no spelling
 //! begins another one.
@@ -14,8 +15,10 @@ mod kinds;
 mod least_format;
 mod msg;
 mod reading;
+mod reading_installs;
 mod record;
 mod writing;
+mod writing_installs;
 
 pub use boxed::{BoxedBitmap, BoxedCursor};
 pub use fault::RecordFault;

@@ -6,7 +6,8 @@ ghost use Rattle.records.specs.declared.kinds.TheConstants.{FINAL_LOADED};
 ghost use Rattle.records.specs.declared.record.Record.{Record};
 ghost use Rattle.records.specs.Faults.{Gives};
 ghost use Rattle.records.specs.Spelling.{Spells, IsBegun, IsBadAt, GivesOrMemory};
-ghost use Rattle.records.specs.Reading.{byte_where, byte_among, number_at, from_foreign, text_at, name_at, rising_at, row_with, stamp_at, attr_at, must_be_stamped, row_at, list_after, rows_at, set_after, named_after, other_after, call_after, call_at, tags_of, least_of, most_of, final_of, is_low, sealed_at, final_at, head_at, served_at, is_depth, split_at, record_at};
+ghost use Rattle.records.specs.Reading.{byte_where, byte_among, number_at, from_foreign, text_at, name_at, rising_at, row_with, stamp_at, attr_at, must_be_stamped, row_at, list_after, rows_at, set_after, named_after, other_after, call_after, call_at, tags_of, least_of, most_of, final_of, is_low, sealed_at, final_at};
+ghost use Rattle.records.specs.ReadingRecords.{head_at, served_at, is_depth, split_at, record_at};
 
 use crate::fault::{Fault, RecordFault, Stop};
 use crate::kinds::{
@@ -14,9 +15,11 @@ use crate::kinds::{
     CALL_SETATTR, CALL_STAMP, CALL_UNLINK, CALL_UNSEAL, FINAL_CREATED, FINAL_CREATED_DIR,
     FINAL_EXISTS, FINAL_IDS, FINAL_IS_DIR, FINAL_KILLED, FINAL_LATE, FINAL_LOADED, FINAL_MISSING,
     FINAL_NOT_EMPTY, FINAL_OPENED, FINAL_REMOVED, FINAL_SEALED, FINAL_SET, FINAL_STALE,
-    RECORD_BEGIN, RECORD_END, RECORD_HEAD, RECORD_OPENED, RECORD_SERVED,
+    RECORD_BEGIN, RECORD_END, RECORD_HEAD, RECORD_INSTALL, RECORD_INSTALL_STAMPED, RECORD_OPENED,
+    RECORD_SERVED,
 };
 use crate::least_format::some_stamped;
+use crate::reading_installs::install;
 use crate::record::Record;
 use chains::reverse;
 use mds_base::limits::{DIRECTORIES, EPOCHS, LOAD_MOST};
@@ -25,7 +28,7 @@ use name_hash::hash;
 use std::alloc::Global;
 
 #[tactic(auto, unfolding(crate::specs::Reading::byte_among, crate::specs::Reading::byte_where))]
-fn byte<'a>(bytes: &'a [u8], allowed: &[u8]) -> Result<(u8, &'a [u8]), Stop>
+pub(crate) fn byte<'a>(bytes: &'a [u8], allowed: &[u8]) -> Result<(u8, &'a [u8]), Stop>
     ensures { Gives (λ x. (x.0, x.1.now)) result (byte_among allowed.now bytes.now) }
 {
     match bytes {
@@ -40,7 +43,12 @@ fn byte<'a>(bytes: &'a [u8], allowed: &[u8]) -> Result<(u8, &'a [u8]), Stop>
     }
 }
 
-fn number(bytes: &[u8], width: usize, least: u64, most: u64) -> Result<(u64, &[u8]), Stop>
+pub(crate) fn number(
+    bytes: &[u8],
+    width: usize,
+    least: u64,
+    most: u64,
+) -> Result<(u64, &[u8]), Stop>
     requires { (width ≤ 8) × (least ≤ most) × (most < 256 ^ width) }
     ensures gives { Gives (λ x. (x.0, x.1.now)) result (number_at width least most bytes.now) }
     ensures within { IfOk result (λ x. (least ≤ x.0) × (x.0 ≤ most)) }
@@ -231,7 +239,7 @@ fn row_list(
 }
 
 #[tactic(auto, unfolding(crate::specs::Reading::rows_at))]
-fn rows(
+pub(crate) fn rows(
     alloc: Global,
     stamped: bool,
     least: u64,
@@ -421,7 +429,7 @@ fn range(call: &Call, tag: u8) -> (u64, u64)
     }
 }
 
-fn final_with(tag: u8, number: u64) -> Final
+pub(crate) fn final_with(tag: u8, number: u64) -> Final
     requires { tag ≡ FINAL_LOADED → number ≤ 4096 }
     ensures { result ≡ final_of tag number }
 {
@@ -460,7 +468,7 @@ fn low(bytes: &[u8]) -> Result<(u8, &[u8]), Stop>
 }
 
 #[tactic(auto, unfolding(crate::specs::Reading::sealed_at))]
-fn sealed(bytes: &[u8]) -> Result<(Final, &[u8]), Stop>
+pub(crate) fn sealed(bytes: &[u8]) -> Result<(Final, &[u8]), Stop>
     ensures { Gives (λ x. (x.0, x.1.now)) result (sealed_at bytes.now) }
 {
     let (high, rest) = number(bytes, 7, 0, EPOCHS / 16 - 1)?;
@@ -483,7 +491,7 @@ fn final_reply<'a>(call: &Call, bytes: &'a [u8]) -> Result<(Final, &'a [u8]), St
     Ok((final_with(tag, number), rest))
 }
 
-#[tactic(auto, unfolding(crate::specs::Reading::head_at))]
+#[tactic(auto, unfolding(crate::specs::ReadingRecords::head_at))]
 fn head(bytes: &[u8]) -> Result<(Record, &[u8]), Stop>
     ensures { Gives (λ x. (x.0, x.1.now)) result (head_at bytes.now) }
 {
@@ -502,7 +510,7 @@ fn head(bytes: &[u8]) -> Result<(Record, &[u8]), Stop>
     ))
 }
 
-#[tactic(auto, unfolding(crate::specs::Reading::served_at))]
+#[tactic(auto, unfolding(crate::specs::ReadingRecords::served_at))]
 fn served(alloc: Global, bytes: &[u8]) -> Result<(Record, &[u8]), Stop>
     ensures { Gives (λ x. (x.0, x.1.now)) result (served_at bytes.now) }
 {
@@ -539,7 +547,7 @@ fn depth(part: u64, bytes: &[u8]) -> Result<(u8, &[u8]), Stop>
     }
 }
 
-#[tactic(auto, unfolding(crate::specs::Reading::split_at))]
+#[tactic(auto, unfolding(crate::specs::ReadingRecords::split_at))]
 fn split(kind: u8, bytes: &[u8]) -> Result<(Record, &[u8]), Stop>
     ensures { Gives (λ x. (x.0, x.1.now)) result (split_at kind bytes.now) }
 {
@@ -555,15 +563,17 @@ fn split(kind: u8, bytes: &[u8]) -> Result<(Record, &[u8]), Stop>
     Ok((item, rest))
 }
 
-const RECORD_KINDS: [u8; 5] = [
+const RECORD_KINDS: [u8; 7] = [
     RECORD_HEAD,
     RECORD_OPENED,
     RECORD_SERVED,
     RECORD_BEGIN,
+    RECORD_INSTALL,
     RECORD_END,
+    RECORD_INSTALL_STAMPED,
 ];
 
-#[tactic(auto, unfolding(crate::specs::Reading::record_at, crate::specs::Reading::record_after))]
+#[tactic(auto, unfolding(crate::specs::ReadingRecords::record_at, crate::specs::ReadingRecords::record_after))]
 fn record(alloc: Global, bytes: &[u8]) -> Result<(Record, &[u8]), Stop>
     ensures { Gives (λ x. (x.0, x.1.now)) result (record_at bytes.now) }
 {
@@ -572,6 +582,8 @@ fn record(alloc: Global, bytes: &[u8]) -> Result<(Record, &[u8]), Stop>
         RECORD_HEAD => head(rest),
         RECORD_OPENED => Ok((Record::Opened, rest)),
         RECORD_SERVED => served(alloc, rest),
+        RECORD_INSTALL => install(alloc, false, rest),
+        RECORD_INSTALL_STAMPED => install(alloc, true, rest),
         _ => split(kind, rest),
     }
 }

@@ -1,9 +1,10 @@
-ghost use Rattle.std.specs.Prelude.{◌≡◌, ◌<◌, ◌^◌, ◌++◌, ◌∷◌, length, false, OnOk, OnErr};
+ghost use Rattle.std.specs.Prelude.{◌≡◌, ◌<◌, ◌^◌, ◌++◌, ◌∷◌, [], length, false, OnOk, OnErr};
 ghost use Rattle.std.specs.List.{AllByRecursion, flat_map};
 ghost use Rattle.std.specs.Int.{w16, w32, w64, to_be_bytes};
 ghost use Rattle.mds_base.specs.declared.call.Call.TheVariants.{Setattr};
 ghost use Rattle.records.specs.declared.kinds.TheConstants.{CALL_KILL, CALL_LOAD};
 ghost use Rattle.records.specs.Rows.{IsRow, name_spelling, attr_spelling, row_spelling, rows_spelling};
+ghost use Rattle.records.specs.Writing.{OnlyGrows};
 ghost use Rattle.records.specs.Spelling.{IsChange, IsNumbered, IsRecord, call_spelling, tag_of, number_of, final_spelling, split_spelling, record_spelling};
 
 use crate::kinds::{
@@ -14,56 +15,78 @@ use crate::kinds::{
     RECORD_BEGIN, RECORD_END, RECORD_HEAD, RECORD_OPENED, RECORD_SERVED,
 };
 use crate::record::Record;
+use crate::writing_installs::put_install;
 use byteorder::{BigEndian, ByteOrder};
 use mds_base::{Attr, Call, Final, Name, Row, Stamp};
-use std::alloc::{AllocError, Global};
+use std::alloc::AllocError;
+
+pub(crate) fn put_byte(out: &mut Vec<u8>, byte: u8) -> Result<(), AllocError>
+    ensures ok { OnOk result (out.new.items ≡ out.old.items ++ byte ∷ []) }
+    ensures grows { OnlyGrows out.old.items out.new.items }
+{
+    out.push(byte)?;
+    Ok(())
+}
+
+fn put_bytes(out: &mut Vec<u8>, bytes: &[u8]) -> Result<(), AllocError>
+    ensures ok { OnOk result (out.new.items ≡ out.old.items ++ bytes.now) }
+    ensures grows { OnlyGrows out.old.items out.new.items }
+{
+    out.extend_from_slice(bytes)
+}
 
 fn put_u16(out: &mut Vec<u8>, number: u16) -> Result<(), AllocError>
-    ensures { OnOk result (out.new.items ≡ out.old.items ++ to_be_bytes w16 number) }
+    ensures ok { OnOk result (out.new.items ≡ out.old.items ++ to_be_bytes w16 number) }
+    ensures grows { OnlyGrows out.old.items out.new.items }
 {
     let mut bytes = [0; 2];
     BigEndian::write_u16(&mut bytes, number);
-    out.extend_from_slice(&bytes)
+    put_bytes(out, &bytes)
 }
 
-fn put_u32(out: &mut Vec<u8>, number: u32) -> Result<(), AllocError>
-    ensures { OnOk result (out.new.items ≡ out.old.items ++ to_be_bytes w32 number) }
+pub(crate) fn put_u32(out: &mut Vec<u8>, number: u32) -> Result<(), AllocError>
+    ensures ok { OnOk result (out.new.items ≡ out.old.items ++ to_be_bytes w32 number) }
+    ensures grows { OnlyGrows out.old.items out.new.items }
 {
     let mut bytes = [0; 4];
     BigEndian::write_u32(&mut bytes, number);
-    out.extend_from_slice(&bytes)
+    put_bytes(out, &bytes)
 }
 
-fn put_u64(out: &mut Vec<u8>, number: u64) -> Result<(), AllocError>
-    ensures { OnOk result (out.new.items ≡ out.old.items ++ to_be_bytes w64 number) }
+pub(crate) fn put_u64(out: &mut Vec<u8>, number: u64) -> Result<(), AllocError>
+    ensures ok { OnOk result (out.new.items ≡ out.old.items ++ to_be_bytes w64 number) }
+    ensures grows { OnlyGrows out.old.items out.new.items }
 {
     let mut bytes = [0; 8];
     BigEndian::write_u64(&mut bytes, number);
-    out.extend_from_slice(&bytes)
+    put_bytes(out, &bytes)
 }
 
 fn put_name(out: &mut Vec<u8>, name: &Name) -> Result<(), AllocError>
-    ensures { OnOk result (out.new.items ≡ out.old.items ++ name_spelling name.now) }
+    ensures ok { OnOk result (out.new.items ≡ out.old.items ++ name_spelling name.now) }
+    ensures grows { OnlyGrows out.old.items out.new.items }
 {
     let bytes = name.bytes();
-    out.push(bytes.len() as u8)?;
-    out.extend_from_slice(bytes)
+    put_byte(out, bytes.len() as u8)?;
+    put_bytes(out, bytes)
 }
 
 // The kind of a call, its directory and its name.
 fn put_start(out: &mut Vec<u8>, kind: u8, dir: u64, name: &Name) -> Result<(), AllocError>
-    ensures { OnOk result (out.new.items ≡ out.old.items ++ kind ∷ (to_be_bytes w64 dir ++ name_spelling name.now)) }
+    ensures ok { OnOk result (out.new.items ≡ out.old.items ++ kind ∷ (to_be_bytes w64 dir ++ name_spelling name.now)) }
+    ensures grows { OnlyGrows out.old.items out.new.items }
 {
-    out.push(kind)?;
+    put_byte(out, kind)?;
     put_u64(out, dir)?;
     put_name(out, name)
 }
 
 // A call that seals a partition or takes a seal off.
 fn put_seal(out: &mut Vec<u8>, kind: u8, dir: u64, part: u32, epoch: u64) -> Result<(), AllocError>
-    ensures { OnOk result (out.new.items ≡ out.old.items ++ kind ∷ (to_be_bytes w64 dir ++ (to_be_bytes w32 part ++ to_be_bytes w64 epoch))) }
+    ensures ok { OnOk result (out.new.items ≡ out.old.items ++ kind ∷ (to_be_bytes w64 dir ++ (to_be_bytes w32 part ++ to_be_bytes w64 epoch))) }
+    ensures grows { OnlyGrows out.old.items out.new.items }
 {
-    out.push(kind)?;
+    put_byte(out, kind)?;
     put_u64(out, dir)?;
     put_u32(out, part)?;
     put_u64(out, epoch)
@@ -71,9 +94,10 @@ fn put_seal(out: &mut Vec<u8>, kind: u8, dir: u64, part: u32, epoch: u64) -> Res
 
 // A call that kills a directory.
 fn put_kill(out: &mut Vec<u8>, dir: u64, epoch: u64) -> Result<(), AllocError>
-    ensures { OnOk result (out.new.items ≡ out.old.items ++ CALL_KILL ∷ (to_be_bytes w64 dir ++ to_be_bytes w64 epoch)) }
+    ensures ok { OnOk result (out.new.items ≡ out.old.items ++ CALL_KILL ∷ (to_be_bytes w64 dir ++ to_be_bytes w64 epoch)) }
+    ensures grows { OnlyGrows out.old.items out.new.items }
 {
-    out.push(CALL_KILL)?;
+    put_byte(out, CALL_KILL)?;
     put_u64(out, dir)?;
     put_u64(out, epoch)
 }
@@ -87,7 +111,8 @@ fn put_set(
     size: u64,
     stamp: &Option<Stamp>,
 ) -> Result<(), AllocError>
-    ensures { OnOk result (out.new.items ≡ out.old.items ++ call_spelling (Setattr dir name.now mode size stamp.now)) }
+    ensures ok { OnOk result (out.new.items ≡ out.old.items ++ call_spelling (Setattr dir name.now mode size stamp.now)) }
+    ensures grows { OnlyGrows out.old.items out.new.items }
 {
     match stamp {
         None => {
@@ -105,7 +130,8 @@ fn put_set(
 
 // The size of a call that sets a stamp, and the stamp's owner and time.
 fn put_stamped(out: &mut Vec<u8>, size: u64, owner: u32, mtime: u64) -> Result<(), AllocError>
-    ensures { OnOk result (out.new.items ≡ out.old.items ++ (to_be_bytes w64 size ++ (to_be_bytes w32 owner ++ to_be_bytes w64 mtime))) }
+    ensures ok { OnOk result (out.new.items ≡ out.old.items ++ (to_be_bytes w64 size ++ (to_be_bytes w32 owner ++ to_be_bytes w64 mtime))) }
+    ensures grows { OnlyGrows out.old.items out.new.items }
 {
     put_u64(out, size)?;
     put_u32(out, owner)?;
@@ -114,7 +140,8 @@ fn put_stamped(out: &mut Vec<u8>, size: u64, owner: u32, mtime: u64) -> Result<(
 
 // The owner and the time of attributes.
 fn put_stamp(out: &mut Vec<u8>, owner: u32, mtime: u64) -> Result<(), AllocError>
-    ensures { OnOk result (out.new.items ≡ out.old.items ++ (to_be_bytes w32 owner ++ to_be_bytes w64 mtime)) }
+    ensures ok { OnOk result (out.new.items ≡ out.old.items ++ (to_be_bytes w32 owner ++ to_be_bytes w64 mtime)) }
+    ensures grows { OnlyGrows out.old.items out.new.items }
 {
     put_u32(out, owner)?;
     put_u64(out, mtime)
@@ -122,7 +149,8 @@ fn put_stamp(out: &mut Vec<u8>, owner: u32, mtime: u64) -> Result<(), AllocError
 
 // The directory, the mode and the size of attributes.
 fn put_numbered(out: &mut Vec<u8>, dir: u64, mode: u16, size: u64) -> Result<(), AllocError>
-    ensures { OnOk result (out.new.items ≡ out.old.items ++ (to_be_bytes w64 dir ++ (to_be_bytes w16 mode ++ to_be_bytes w64 size))) }
+    ensures ok { OnOk result (out.new.items ≡ out.old.items ++ (to_be_bytes w64 dir ++ (to_be_bytes w16 mode ++ to_be_bytes w64 size))) }
+    ensures grows { OnlyGrows out.old.items out.new.items }
 {
     put_u64(out, dir)?;
     put_u16(out, mode)?;
@@ -131,7 +159,8 @@ fn put_numbered(out: &mut Vec<u8>, dir: u64, mode: u16, size: u64) -> Result<(),
 
 fn put_attr(out: &mut Vec<u8>, stamped: bool, attr: &Attr) -> Result<(), AllocError>
     requires { attr.now.mode < 2 ^ 16 }
-    ensures { OnOk result (out.new.items ≡ out.old.items ++ attr_spelling stamped attr.now) }
+    ensures ok { OnOk result (out.new.items ≡ out.old.items ++ attr_spelling stamped attr.now) }
+    ensures grows { OnlyGrows out.old.items out.new.items }
 {
     put_numbered(out, attr.dir, attr.mode as u16, attr.size)?;
     if stamped {
@@ -142,7 +171,8 @@ fn put_attr(out: &mut Vec<u8>, stamped: bool, attr: &Attr) -> Result<(), AllocEr
 
 fn put_row(out: &mut Vec<u8>, stamped: bool, row: &Row) -> Result<(), AllocError>
     requires { IsRow stamped row.now }
-    ensures { OnOk result (out.new.items ≡ out.old.items ++ row_spelling stamped row.now) }
+    ensures ok { OnOk result (out.new.items ≡ out.old.items ++ row_spelling stamped row.now) }
+    ensures grows { OnlyGrows out.old.items out.new.items }
 {
     put_name(out, &row.name)?;
     put_attr(out, stamped, &row.attr)
@@ -150,7 +180,8 @@ fn put_row(out: &mut Vec<u8>, stamped: bool, row: &Row) -> Result<(), AllocError
 
 fn put_each(out: &mut Vec<u8>, stamped: bool, rows: &[Row]) -> Result<(), AllocError>
     requires { AllByRecursion (IsRow stamped) rows.now }
-    ensures { OnOk result (out.new.items ≡ out.old.items ++ flat_map (row_spelling stamped) rows.now) }
+    ensures ok { OnOk result (out.new.items ≡ out.old.items ++ flat_map (row_spelling stamped) rows.now) }
+    ensures grows { OnlyGrows out.old.items out.new.items }
 {
     for row in rows {
         put_row(out, stamped, row)?;
@@ -159,10 +190,11 @@ fn put_each(out: &mut Vec<u8>, stamped: bool, rows: &[Row]) -> Result<(), AllocE
 }
 
 // How many rows there are, and each of them.
-fn put_rows(out: &mut Vec<u8>, stamped: bool, rows: &[Row]) -> Result<(), AllocError>
+pub(crate) fn put_rows(out: &mut Vec<u8>, stamped: bool, rows: &[Row]) -> Result<(), AllocError>
     requires few { length rows.now < 2 ^ 32 }
     requires each { AllByRecursion (IsRow stamped) rows.now }
-    ensures { OnOk result (out.new.items ≡ out.old.items ++ rows_spelling stamped rows.now) }
+    ensures ok { OnOk result (out.new.items ≡ out.old.items ++ rows_spelling stamped rows.now) }
+    ensures grows { OnlyGrows out.old.items out.new.items }
 {
     put_u32(out, rows.len() as u32)?;
     put_each(out, stamped, rows)
@@ -172,16 +204,18 @@ fn put_rows(out: &mut Vec<u8>, stamped: bool, rows: &[Row]) -> Result<(), AllocE
 fn put_load(out: &mut Vec<u8>, dir: u64, rows: &[Row]) -> Result<(), AllocError>
     requires few { length rows.now < 2 ^ 32 }
     requires each { AllByRecursion (IsRow false) rows.now }
-    ensures { OnOk result (out.new.items ≡ out.old.items ++ CALL_LOAD ∷ (to_be_bytes w64 dir ++ rows_spelling false rows.now)) }
+    ensures ok { OnOk result (out.new.items ≡ out.old.items ++ CALL_LOAD ∷ (to_be_bytes w64 dir ++ rows_spelling false rows.now)) }
+    ensures grows { OnlyGrows out.old.items out.new.items }
 {
-    out.push(CALL_LOAD)?;
+    put_byte(out, CALL_LOAD)?;
     put_u64(out, dir)?;
     put_rows(out, false, rows)
 }
 
 fn put_call(out: &mut Vec<u8>, call: &Call) -> Result<(), AllocError>
     requires { IsChange call.now }
-    ensures { OnOk result (out.new.items ≡ out.old.items ++ call_spelling call.now) }
+    ensures ok { OnOk result (out.new.items ≡ out.old.items ++ call_spelling call.now) }
+    ensures grows { OnlyGrows out.old.items out.new.items }
 {
     match call {
         Call::Create { dir, name } => put_start(out, CALL_CREATE, *dir, name),
@@ -250,17 +284,19 @@ fn number(said: &Final) -> u64
     }
 }
 
-fn put_final(out: &mut Vec<u8>, said: &Final) -> Result<(), AllocError>
+pub(crate) fn put_final(out: &mut Vec<u8>, said: &Final) -> Result<(), AllocError>
     requires { IsNumbered said.now }
-    ensures { OnOk result (out.new.items ≡ out.old.items ++ final_spelling said.now) }
+    ensures ok { OnOk result (out.new.items ≡ out.old.items ++ final_spelling said.now) }
+    ensures grows { OnlyGrows out.old.items out.new.items }
 {
-    out.push(tag(said))?;
+    put_byte(out, tag(said))?;
     put_u64(out, number(said))
 }
 
 // The numbers of a change.
 fn put_numbers(out: &mut Vec<u8>, client: u32, seq: u64, part: u32) -> Result<(), AllocError>
-    ensures { OnOk result (out.new.items ≡ out.old.items ++ (to_be_bytes w32 client ++ (to_be_bytes w64 seq ++ to_be_bytes w32 part))) }
+    ensures ok { OnOk result (out.new.items ≡ out.old.items ++ (to_be_bytes w32 client ++ (to_be_bytes w64 seq ++ to_be_bytes w32 part))) }
+    ensures grows { OnlyGrows out.old.items out.new.items }
 {
     put_u32(out, client)?;
     put_u64(out, seq)?;
@@ -270,26 +306,35 @@ fn put_numbers(out: &mut Vec<u8>, client: u32, seq: u64, part: u32) -> Result<()
 // A call and its reply.
 fn put_answered(out: &mut Vec<u8>, call: &Call, said: &Final) -> Result<(), AllocError>
     requires { IsChange call.now × IsNumbered said.now }
-    ensures { OnOk result (out.new.items ≡ out.old.items ++ (call_spelling call.now ++ final_spelling said.now)) }
+    ensures ok { OnOk result (out.new.items ≡ out.old.items ++ (call_spelling call.now ++ final_spelling said.now)) }
+    ensures grows { OnlyGrows out.old.items out.new.items }
 {
     put_call(out, call)?;
     put_final(out, said)
 }
 
 // The kind of a split's begin or end, its directory, its partition and its depth.
-fn put_split(out: &mut Vec<u8>, kind: u8, dir: u64, part: u32, depth: u8) -> Result<(), AllocError>
-    ensures { OnOk result (out.new.items ≡ out.old.items ++ kind ∷ split_spelling dir part depth) }
+pub(crate) fn put_split(
+    out: &mut Vec<u8>,
+    kind: u8,
+    dir: u64,
+    part: u32,
+    depth: u8,
+) -> Result<(), AllocError>
+    ensures ok { OnOk result (out.new.items ≡ out.old.items ++ kind ∷ split_spelling dir part depth) }
+    ensures grows { OnlyGrows out.old.items out.new.items }
 {
-    out.push(kind)?;
+    put_byte(out, kind)?;
     put_u64(out, dir)?;
     put_u32(out, part)?;
-    out.push(depth)?;
+    put_byte(out, depth)?;
     Ok(())
 }
 
 fn put_record(out: &mut Vec<u8>, item: &Record) -> Result<(), AllocError>
     requires { IsRecord item.now }
-    ensures { OnOk result (out.new.items ≡ out.old.items ++ record_spelling item.now) }
+    ensures ok { OnOk result (out.new.items ≡ out.old.items ++ record_spelling item.now) }
+    ensures grows { OnlyGrows out.old.items out.new.items }
 {
     match item {
         Record::Head {
@@ -298,14 +343,14 @@ fn put_record(out: &mut Vec<u8>, item: &Record) -> Result<(), AllocError>
             server,
             threshold,
         } => {
-            out.push(RECORD_HEAD)?;
-            out.push(*format)?;
+            put_byte(out, RECORD_HEAD)?;
+            put_byte(out, *format)?;
             put_u32(out, *servers)?;
             put_u32(out, *server)?;
             put_u32(out, *threshold)
         }
         Record::Opened => {
-            out.push(RECORD_OPENED)?;
+            put_byte(out, RECORD_OPENED)?;
             Ok(())
         }
         Record::Served {
@@ -315,7 +360,7 @@ fn put_record(out: &mut Vec<u8>, item: &Record) -> Result<(), AllocError>
             call,
             said,
         } => {
-            out.push(RECORD_SERVED)?;
+            put_byte(out, RECORD_SERVED)?;
             put_numbers(out, *client, *seq, *part)?;
             put_answered(out, call, said)
         }
@@ -327,22 +372,38 @@ fn put_record(out: &mut Vec<u8>, item: &Record) -> Result<(), AllocError>
             *depth as u8,
         ),
         Record::End { dir, part, depth } => put_split(out, RECORD_END, *dir, *part, *depth as u8),
-        Record::Install { .. } => Ok(()),
+        Record::Install {
+            dir,
+            part,
+            depth,
+            bitmap,
+            sessions,
+            rows,
+        } => put_install(
+            out,
+            *dir,
+            *part,
+            *depth,
+            bitmap.get(),
+            sessions.sessions(),
+            rows.rows(),
+        ),
     }
 }
 
-// Room for a record whose name is short, so that most are written without moving.
-const ROOM: usize = 96;
-
 /// Appends the one spelling of a record (`docs/FORMATS.md`, "Records"), whose numbers are in the ranges there and
-/// whose final the plain rules allow for its call. Where there is no memory for it `out` stays as it is.
-pub fn write(alloc: Global, item: &Record, out: &mut Vec<u8>) -> Result<(), AllocError>
+/// whose final the plain rules allow for its call. Where there is no memory for it the bytes of `out` stay as they are.
+pub fn write(item: &Record, out: &mut Vec<u8>) -> Result<(), AllocError>
     requires { IsRecord item.now }
     ensures ok { OnOk result (out.new.items ≡ out.old.items ++ record_spelling item.now) }
     ensures err { OnErr result (out.new.items ≡ out.old.items) }
 {
-    let mut bytes = Vec::with_capacity(alloc, ROOM)?;
-    put_record(&mut bytes, item)?;
-    out.extend_from_slice(bytes.as_slice())?;
-    Ok(())
+    let len = out.len();
+    match put_record(out, item) {
+        Ok(()) => Ok(()),
+        Err(error) => {
+            out.truncate(len);
+            Err(error)
+        }
+    }
 }

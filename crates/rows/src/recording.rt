@@ -36,7 +36,7 @@ fn write_row(alloc: Global, mut words: Words<'_>) -> Answer {
         Ok((item, _)) => {
             let mut out = Vec::new(alloc);
             out.push(9)?;
-            write(alloc, &item, &mut out)?;
+            write(&item, &mut out)?;
             hex_text(alloc, out.as_slice())
         }
         Err(RecordFault::OutOfMemory) => Err(RowFault::OutOfMemory),

@@ -1,5 +1,5 @@
 //! Rows of a directory, by their names alone.
-use mds_base::{Attr, Row, RowList};
+use mds_base::{Attr, Cursor, MapRows, Row, RowList, Rows};
 use row_words::{Answer, RowFault, Words, push_name, text};
 use std::alloc::Global;
 
@@ -15,6 +15,13 @@ pub(crate) fn read_rows(alloc: Global, words: &mut Words<'_>) -> Result<RowList,
         }
     }
     Ok(rows)
+}
+
+/// The names of all rows of a partition, in their order; `-` where there is none.
+pub(crate) fn names_in(alloc: Global, rows: &mut MapRows, dir: u64, part: u32) -> Answer {
+    let from = Cursor { at: 0, after: None };
+    let page = rows.page(alloc, dir, part, &from, u64::MAX, u32::MAX)?;
+    rows_text(alloc, page.rows())
 }
 
 /// The names of rows; `-` where there is none.

@@ -1,6 +1,7 @@
 //! The program `rows_parts`: rows of the parts of a server and of a client. `crates/rows/README.md` says what a row is.
 #![tactic(auto)]
 
+mod bulking;
 mod caching;
 mod leasing;
 mod lists;
@@ -29,6 +30,7 @@ impl Table for Calls {
             "split" => splitting::answer(alloc, words),
             "path_walk" => walking::answer(alloc, words),
             "scan" => scanning::answer(alloc, words),
+            "bulk" => bulking::answer(alloc, words),
             _ => Err(RowFault::NotARow),
         }
     }

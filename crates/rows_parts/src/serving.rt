@@ -1,10 +1,10 @@
 //! Rows of `partition`: calls that are served in one partition, over rows in memory.
+use crate::lists::names_in;
 use mds_base::limits::{LEASE_MOST, MOMENTS};
-use mds_base::{Ask, Attr, Call, Cursor, MapRows, Reply, Row, RowList, Rows, Setup};
+use mds_base::{Ask, Attr, Call, MapRows, Reply, Row, RowList, Setup};
 use partition::{Partition, Step, is_served};
 use row_words::{
-    Answer, BETWEEN, RowFault, Words, attr_text, push_answer, push_final, push_name, read_call,
-    text,
+    Answer, BETWEEN, RowFault, Words, attr_text, push_answer, push_final, read_call, text,
 };
 use std::alloc::Global;
 
@@ -44,7 +44,7 @@ fn act(
     match words.word()? {
         "count" => number_text(alloc, part.count),
         "top" => number_text(alloc, part.leases.top()),
-        "names" => names(alloc, rows),
+        "names" => names_in(alloc, rows, DIR, PART),
         "again" => again(alloc, part),
         _ => serve(alloc, part, rows, lease, all),
     }
@@ -59,23 +59,6 @@ fn again(alloc: Global, part: &mut Partition) -> Answer {
     let top = part.leases.top();
     *part = Partition::installed(alloc, part.count, &list, top)?;
     text(alloc, "ok")
-}
-
-/// The names of all rows, in their order; `-` where there is none.
-fn names(alloc: Global, rows: &mut MapRows) -> Answer {
-    let from = Cursor { at: 0, after: None };
-    let page = rows.page(alloc, DIR, PART, &from, u64::MAX, u32::MAX)?;
-    if page.rows().is_empty() {
-        return text(alloc, "-");
-    }
-    let mut out = String::new(alloc);
-    for row in page.rows() {
-        if !out.as_str().is_empty() {
-            out.push(' ')?;
-        }
-        push_name(&mut out, &row.name)?;
-    }
-    Ok(out)
 }
 
 fn serve(

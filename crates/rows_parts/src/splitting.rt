@@ -1,8 +1,8 @@
 //! Rows of `split`: the half of a partition that moves, and the pieces in which it is sent.
 ghost use Rattle.std.specs.Prelude.{◌<◌, ◌^◌};
 
-use crate::lists::{read_rows, rows_text};
-use mds_base::{Attr, Cursor, MapRows, RADIX, Row, RowList, Rows, SplitState};
+use crate::lists::{names_in, read_rows, rows_text};
+use mds_base::{Attr, MapRows, RADIX, Row, RowList, SplitState};
 use row_words::{Answer, BETWEEN, RowFault, Words, push_answer, text, yes_or_no};
 use split::{Collector, end, frozen, install, moving_half, piece, piece_count};
 use std::alloc::Global;
@@ -56,15 +56,9 @@ fn move_half(alloc: Global, part: u32, depth: u32, named: &RowList) -> Answer
     let child = part + (1 << depth);
     install(alloc, &mut rows, DIR, child, &half)?;
     let moved = rows_text(alloc, half.rows())?;
-    let left = names_in(alloc, &mut rows, part)?;
-    let put = names_in(alloc, &mut rows, child)?;
+    let left = names_in(alloc, &mut rows, DIR, part)?;
+    let put = names_in(alloc, &mut rows, DIR, child)?;
     Ok(format!(in alloc; "{moved}; {taken}; {left}; {put}")?)
-}
-
-fn names_in(alloc: Global, rows: &mut MapRows, part: u32) -> Answer {
-    let from = Cursor { at: 0, after: None };
-    let page = rows.page(alloc, DIR, part, &from, u64::MAX, u32::MAX)?;
-    rows_text(alloc, page.rows())
 }
 
 /// `COUNT NAME`: in how many pieces so many rows are sent, and how many each has.

@@ -7,7 +7,9 @@ use gate_log::{GateLog, LogFault, Piece};
 use mds_base::{Damage, StoreFault};
 use mds_out::{Disk, Fuse};
 use row_store::{Change, RowStore};
-use row_words::{Answer, BETWEEN, RUNS, RowFault, Words, hex_text, new_disk, push_answer, push_run, text};
+use row_words::{
+    Answer, BETWEEN, RUNS, RowFault, Words, hex_text, new_disk, push_answer, push_run, text,
+};
 use std::alloc::Global;
 
 /// The frames of a store.
@@ -113,12 +115,7 @@ fn ask<D: Disk>(
 }
 
 /// The size of the row at a key, or `none`.
-fn find<D: Disk>(
-    alloc: Global,
-    disk: &mut D,
-    store: &mut RowStore,
-    mut words: Words<'_>,
-) -> Answer
+fn find<D: Disk>(alloc: Global, disk: &mut D, store: &mut RowStore, mut words: Words<'_>) -> Answer
     requires { store.old.stopped ≡ false → IsReady store.old (D.seen disk.old) (D.sizes disk.old) (D.images disk.old) }
 {
     let key = tables::key_of(alloc, &mut words)?;
@@ -155,12 +152,7 @@ fn body<D: Disk>(alloc: Global, disk: &mut D, store: &mut RowStore) -> Answer
 }
 
 /// Commits a row with a body, and answers what is found at its key then.
-fn commit<D: Disk>(
-    alloc: Global,
-    disk: &mut D,
-    store: &mut RowStore,
-    words: Words<'_>,
-) -> Answer
+fn commit<D: Disk>(alloc: Global, disk: &mut D, store: &mut RowStore, words: Words<'_>) -> Answer
     requires root { HasRoot store.old }
     requires running { store.old.stopped ≡ false }
     requires ready { IsReady store.old (D.seen disk.old) (D.sizes disk.old) (D.images disk.old) }
@@ -192,6 +184,8 @@ fn refused(alloc: Global, fault: StoreFault) -> Answer {
             place,
             damage: Damage::Spelling,
         } => Ok(format!(in alloc; "spelling at {place} of {file}")?),
-        StoreFault::Damaged { file, place, .. } => Ok(format!(in alloc; "sum at {place} of {file}")?),
+        StoreFault::Damaged { file, place, .. } => Ok(format!(in alloc;
+            "sum at {place} of {file}"
+        )?),
     }
 }

@@ -5,7 +5,7 @@ ghost use Rattle.world.specs.Events.{enabled};
 use crate::history::{Effect, History, Issued};
 use bitmap::Bitmap;
 use mds_base::{Call, Name, NameFault, PlaceList, Reply, Setup, Stamp};
-use records::{Msg, Record};
+use records::{Msg, MsgList, Record};
 use row_words::{Answer, RowFault, Words};
 use std::alloc::{AllocError, Global};
 use world::{Event, ServeEnd, StopCause, World};
@@ -145,7 +145,7 @@ fn random_name(alloc: Global, dice: &mut Dice) -> Result<Name, RowFault> {
 }
 
 /// The place of one of the last messages, and of the first where there is none.
-fn random_place(dice: &mut Dice, sent: &[Msg]) -> u64 {
+fn random_place(dice: &mut Dice, sent: &MsgList) -> u64 {
     let back = dice.below(5) as usize;
     if back < sent.len() {
         (sent.len() - 1 - back) as u64
@@ -155,7 +155,7 @@ fn random_place(dice: &mut Dice, sent: &[Msg]) -> u64 {
 }
 
 /// The server to which a message goes, or the client.
-fn receiver(sent: &[Msg], place: u64) -> u32 {
+fn receiver(sent: &MsgList, place: u64) -> u32 {
     match sent.get(place as usize) {
         Some(Msg::Request { server, .. }) => *server,
         Some(Msg::Answer { client, .. }) => *client,
@@ -324,7 +324,7 @@ fn open_call(world: &World, client: u32) -> Option<u64> {
 /// A request at this place was served, and what was sent for it stands from `first` on.
 fn note_served(
     alloc: Global,
-    sent: &[Msg],
+    sent: &MsgList,
     history: &mut History,
     place: Option<u64>,
     first: usize,

@@ -4,4 +4,3 @@ pub mod Grammar
 pub mod Text
 pub mod Reading
 pub mod Answers
-pub mod Stages

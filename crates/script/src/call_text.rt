@@ -93,7 +93,7 @@ fn plain_text(bytes: &[u8]) -> Option<&str>
 fn are_plain(bytes: &[u8]) -> bool
     ensures { result ≡ list_all is_plain_byte bytes.now }
 {
-    bytes.iter().all(|byte| is_plain(*byte))
+    bytes.iter().copied().all(is_plain)
 }
 
 /// A byte of a name.

@@ -17,7 +17,6 @@ mod fault;
 mod line;
 mod number;
 mod reading;
-mod stages;
 mod unread;
 mod verb;
 mod words;

@@ -16,7 +16,6 @@ pub mod Ranged
 pub mod Showing
 pub mod Sending
 pub mod Taking
-pub mod Carried
 pub mod Arming
 pub mod Due
 pub mod Numbers
@@ -25,10 +24,9 @@ pub mod Outputs
 pub mod Serving
 pub mod Stopping
 pub mod Restarting
-pub mod Changing
-pub mod Handing
-pub mod Reviving
 pub mod Making
 pub mod Marks
 pub mod Licensing
-pub mod Paying
+pub mod ClientStep
+pub mod ServeStep
+pub mod RestartStep

@@ -9,10 +9,10 @@ use Rattle.mds_out.specs.Fault.{Rose}
 use Rattle.mds_out.specs.Fused.{Fused}
 use Rattle.node_store.specs.Store.{Store}
 use Rattle.mds_base.proofs.Grow.{set_here}
-use Rattle.simulation.specs.Calls.{armed}
 use Rattle.simulation.specs.Licences.{armed_of, own_faults, IsLicensed, AreLicensed, none_at, once_at}
+use Rattle.simulation.specs.Moves.{armed, halt}
 use Rattle.simulation.specs.Shows.{SimulationV}
-use Rattle.simulation.proofs.Changing.{others_stay}
+use Rattle.simulation.proofs.Standing.{others_stay}
 
 module _ {D : Type 0} (faults : D → ℕ) where
   -- nothing happened to a server
@@ -29,9 +29,6 @@ module _ {D : Type 0} (faults : D → ℕ) where
       paid_on (inr p) (inl q) = inr (omega (arith, p, two.later))
       paid_on (inl p) (inr q) = inr q
       paid_on (inr p) (inr q) = inr q
-
-  pub are_licensed_on : (a b c : List (Store (Fused D))) (m n f g : ℕ → ℕ) → AreLicensed faults a b m f → AreLicensed faults b c n g → AreLicensed faults a c (λ s. m s + n s) (λ s. f s + g s)
-  are_licensed_on a b c m n f g one two s = licensed_on (slice_get a s) (slice_get b s) (slice_get c s) (m s) (n s) (f s) (g s) (one s) (two s)
 
   pub are_licensed_same : (old new : List (Store (Fused D))) → new ≡ old → AreLicensed faults old new none_at none_at
   are_licensed_same old new same s = licensed_same (slice_get old s) (slice_get new s) (ap (λ l. slice_get l s) same)
@@ -96,7 +93,7 @@ module _ {D : Type 0} (faults : D → ℕ) where
       arms false a = omega arith
 
   -- which is stopped, or whose fuse is not armed then: no stop
-  pub licensed_halted : (store new : Store (Fused D)) → new ≡ record store { up = None } → IsLicensed faults (Some store) (Some new) 0 0
+  pub licensed_halted : (store new : Store (Fused D)) → new ≡ halt store → IsLicensed faults (Some store) (Some new) 0 0
   licensed_halted store new same = subst (λ s. IsLicensed faults (Some store) (Some s) 0 0) (sym same) (record { later = omega arith; paid = inl (omega arith) })
 
   pub licensed_unarmed : (old new : Store (Fused D)) → faults old.disk.inner ≤ faults new.disk.inner → new.disk.left ≡ None → IsLicensed faults (Some old) (Some new) 0 0
@@ -121,7 +118,7 @@ module _ {D : Type 0} (faults : D → ℕ) (was old : SimulationV (Fused D)) (se
       (subst (λ (v : SimulationV (Fused D)). IsLicensed faults (slice_get v.stores server) (slice_get (slice_set was.stores server new) server) m f) same
       (subst (λ o. IsLicensed faults o (slice_get (slice_set was.stores server new) server) m f) (sym is)
       (subst (λ o. IsLicensed faults (Some store) o m f) (sym (set_here was.stores server store new is)) one)))
-      (others_stay was old server new same)
+      (others_stay same server new)
 
   -- no stop
   pub quiet_licensed : IsLicensed faults (Some store) (Some new) 0 0 → AreLicensed faults old.stores (slice_set was.stores server new) none_at none_at

@@ -1,20 +1,12 @@
 -- A server that is up, and the directory numbers that it has left.
-use Rattle.std.proofs.Common.{◌≡◌, ◌∙◌, sym, ap, subst, refl, ℕ, ◌+◌, ◌*◌, ◌-◌, true, is_some, Option, Some, None, arith}
+use Rattle.std.proofs.Common.{◌≡◌, ◌∙◌, sym, ap, refl, ℕ, ◌+◌, ◌*◌, ◌-◌, Some, arith}
 use Rattle.std.specs.Prelude.{nat_le}
 use Rattle.std.specs.List.{slice_get}
 use Rattle.std.proofs.lemmas.Bool.Decides.{nat_tests}
 use Rattle.mds_base.specs.declared.limits.TheConstants.{SERVER_DIRECTORIES, SERVE_DIRECTORIES}
 use Rattle.node_core.specs.Nodes.{NodeV, StoreV, has_numbers}
 use Rattle.node_store.specs.Store.{Store}
-use Rattle.simulation.specs.Shows.{SimulationV, is_up, store_is_up, up_has_numbers, store_has_numbers, has_numbers_at}
-
-some_up : (up : Option StoreV) → is_some up ≡ true → (store : StoreV) × (up ≡ Some store)
-some_up None e = cc
-some_up (Some store) e = (store, refl)
-
-pub up_at : {X : Type 0} (was old : SimulationV X) (s : ℕ) (store : Store X) → was ≡ old → slice_get was.stores s ≡ Some store → is_up old s ≡ true → (x : StoreV) × (store.up ≡ Some x)
-up_at {X = X} was old s store same is up =
-    some_up store.up (ap store_is_up (sym is) ∙ subst (λ (v : SimulationV X). is_up v s ≡ true) (sym same) up)
+use Rattle.simulation.specs.Shows.{SimulationV, up_has_numbers, store_has_numbers, has_numbers_at}
 
 left_is : (next server : ℕ) → nat_le next ((server + 1) * SERVER_DIRECTORIES - SERVE_DIRECTORIES) ≡ nat_le (next + SERVE_DIRECTORIES) ((server + 1) * SERVER_DIRECTORIES)
 left_is next server = grind (arith, nat_tests)

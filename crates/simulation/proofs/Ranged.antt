@@ -3,7 +3,8 @@ use Rattle.std.proofs.Common.{◌≡◌, ◌∙◌, sym, ap, subst, refl, ℕ, �
 use Rattle.std.specs.Prelude.{slice_set}
 use Rattle.std.specs.List.{slice_get}
 use Rattle.std.proofs.lemmas.Nat.{mod_below}
-use Rattle.mds_base.specs.declared.limits.TheConstants.{EVENTS, MOMENTS}
+use Rattle.mds_base.specs.declared.limits.TheConstants.{CALLS, EVENTS, MOMENTS}
+use Rattle.mds_base.specs.declared.ask.Ask.{Ask}
 use Rattle.mds_base.specs.declared.call.Call.{Call}
 use Rattle.mds_base.specs.declared.reply.Reply.{Reply}
 use Rattle.mds_base.specs.declared.setup.Setup.{Setup}
@@ -11,14 +12,27 @@ use Rattle.records.specs.declared.msg.Msg.{Msg}
 use Rattle.records.specs.declared.msg.Msg.TheVariants.{Request, Redirect, Answer, Busy, Held, Page, Closed, Transfer, Installed}
 use Rattle.bitmap.specs.Bits.{Bits}
 use Rattle.client_core.specs.declared.client.Pending.{Pending}
-use Rattle.client_core.specs.Clients.{ClientV, target_of, issued, issue_msg, resent, resend_msg, merged, request_of}
+use Rattle.client_core.specs.Clients.{ClientV, HasRoom, target_of, issued, resent, merged, request_of}
 use Rattle.mds_base.specs.Calls.{dir_of}
 use Rattle.client_core.specs.Taking.{take, take_at, take_pending, answered_if, redirected_if, busy_if, held_if}
+use Rattle.node_core.specs.Nodes.{StoreV}
+use Rattle.node_core.specs.Rules.{Outcome, Silent, Looks, Repeats, Carries, outcome, request_in}
+use Rattle.node_core.specs.Serving.{serve, serve_request, served_as}
 use Rattle.node_store.specs.Serve.{IsWellMade}
 use Rattle.node_store.specs.Store.{Store}
-use Rattle.mds_base.proofs.Grow.{each_push, each_map, each_set, length_set, within}
+use Rattle.mds_base.specs.Lists.{Each}
+use Rattle.mds_base.proofs.Grow.{each_push, each_set, length_set}
+use Rattle.mds_base.proofs.Lists.{each_none}
+use Rattle.world.specs.Ranges.{AreRanges}
+use Rattle.world.proofs.Ranges.{seat_set, seats_mapped, msg_sent, msgs_sent, later}
 use Rattle.mds_base.specs.Setups.{IsSetup}
-use Rattle.simulation.specs.Ranges.{IsOpenCall, IsOpen, IsSeat, IsSent, AreRanges}
+use Rattle.simulation.specs.declared.servers.Served.{Served}
+use Rattle.simulation.specs.declared.servers.Served.TheVariants as serves
+use Rattle.simulation.specs.Moves.{sent_after}
+use Rattle.simulation.specs.Ranges.{IsOpenCall, IsOpen, IsSeat, IsSent, AreStores, IsRanged, InRange}
+use Rattle.simulation.specs.Shows.{SimulationV}
+
+-- Clients
 
 open_more : (count seq : ℕ) (pending : Option Pending) → IsOpen count seq pending → IsOpen (count + 1) seq pending
 open_more count seq None o = tt
@@ -101,72 +115,74 @@ request_sent setup count k client seq attempt call ranges there s from below mad
   };
 }
 
-module _ {X : Type 0} (setup : Setup) (now count : ℕ) (stores : List (Store X)) (clients : List ClientV) (sent : List Msg) (r : AreRanges setup now count stores clients sent) (room : count < EVENTS) where
-  -- one event more
-  pub ranged_count : AreRanges setup now (count + 1) stores clients sent
-  ranged_count = record {
-    setup' = r.setup';
-    moment = r.moment;
-    events = omega (arith, room);
-    stores' = r.stores';
-    numbers = r.numbers;
-    clients' = r.clients';
-    seats = each_map r.seats (λ k client s. seat_more setup count k client s);
-    sent' = r.sent';
-  }
+-- the number of a client's call, and that of its attempt, leave room
+pub calls_left : {setup : Setup} {count k : ℕ} {client : ClientV} → count ≤ EVENTS → IsSeat setup count k client → (client.seq < CALLS) × HasRoom client.pending
+calls_left {count = count} {client = client} few s = (omega (arith, few, s.seq), room_in_call client.pending s.pending)
+  where
+    room_in_call : (p : Option Pending) → IsOpen count client.seq p → HasRoom p
+    room_in_call None o = tt
+    room_in_call (Some pending) o = omega (arith, few, o.attempts)
 
-  -- one event more, by which the moment rose
-  pub ranged_moment : (by : ℕ) → now + by < MOMENTS → AreRanges setup (now + by) (count + 1) stores clients sent
-  ranged_moment by below = record {
-    setup' = r.setup';
-    moment = below;
-    events = omega (arith, room);
-    stores' = r.stores';
-    numbers = r.numbers;
-    clients' = r.clients';
-    seats = each_map r.seats (λ k client s. seat_more setup count k client s);
-    sent' = r.sent';
-  }
+-- Messages that a server sends
 
-  -- one event more, by which a client changed
-  pub ranged_client : (k : ℕ) (client : ClientV) → IsSeat setup (count + 1) k client → AreRanges setup now (count + 1) stores (slice_set clients k client) sent
-  ranged_client k client s = record {
-    setup' = r.setup';
-    moment = r.moment;
-    events = omega (arith, room);
-    stores' = r.stores';
-    numbers = r.numbers;
-    clients' = length_set clients k client ∙ r.clients';
-    seats = each_set k client (each_map r.seats (λ j other t. seat_more setup count j other t)) s;
-    sent' = r.sent';
-  }
+module _ (servers : ℕ) where
+  answers : (store : StoreV) (ask : Ask) (o : Outcome) → Each (served_as store ask o).outputs (λ k msg. IsSent servers msg)
+  answers store ask Silent = each_none
+  answers store ask (Looks reply) = each_push {xs = []} _ each_none (record { there = tt; made = tt })
+  answers store ask (Repeats said) = each_push {xs = []} _ each_none (record { there = tt; made = tt })
+  answers store ask (Carries said) = each_push {xs = []} _ each_none (record { there = tt; made = tt })
 
-  -- and a message was sent
-  pub ranged_sent : (k : ℕ) (client : ClientV) (msg : Msg) → IsSeat setup (count + 1) k client → IsSent setup.servers msg → AreRanges setup now (count + 1) stores (slice_set clients k client) (sent ++ msg ∷ [])
-  ranged_sent k client msg s good = record {
-    setup' = r.setup';
-    moment = r.moment;
-    events = omega (arith, room);
-    stores' = r.stores';
-    numbers = r.numbers;
-    clients' = length_set clients k client ∙ r.clients';
-    seats = each_set k client (each_map r.seats (λ j other t. seat_more setup count j other t)) s;
-    sent' = each_push msg r.sent' good;
-  }
+  answers_to : (store : StoreV) (request : Option Ask) (now : ℕ) → Each (serve_request store request now).outputs (λ k msg. IsSent servers msg)
+  answers_to store None now = each_none
+  answers_to store (Some ask) now = answers store ask (outcome store ask now)
 
-  pub issued_sent : (k : ℕ) (client : ClientV) (call : Call) → slice_get clients k ≡ Some client → IsWellMade call → IsSent setup.servers (issue_msg client call)
-  issued_sent k client call is made =
-      let s = r.seats.at k client is in
-      let below = s.seq in
-      let there = within clients k client is in
-      let all = r.clients' in
-      request_sent setup count k client (client.seq + 1) 1 call r.setup' (omega (arith, there, all)) s (omega arith) (omega (arith, below, room)) made
+module _ {setup : Setup} {now count : ℕ} {clients : List ClientV} {sent : List Msg} (r : AreRanges setup now (IsSeat setup count) clients (IsSent setup.servers) sent) where
+  pub same_sent : (sent' : List Msg) → sent' ≡ sent → AreRanges setup now (IsSeat setup count) clients (IsSent setup.servers) sent'
+  same_sent sent' is = subst (AreRanges setup now (IsSeat setup count) clients (IsSent setup.servers)) (sym is) r
 
-  pub resent_sent : (k : ℕ) (client : ClientV) (pending : Pending) → slice_get clients k ≡ Some client → client.pending ≡ Some pending → IsSent setup.servers (resend_msg client pending)
-  resent_sent k client pending is busy =
-      let s = r.seats.at k client is in
-      let below = s.seq in
-      let there = within clients k client is in
-      let all = r.clients' in
-      let o : IsOpenCall count client.seq pending = subst (IsOpen count client.seq) busy s.pending in
-      request_sent setup count k client client.seq (pending.attempt + 1) pending.call r.setup' (omega (arith, there, all)) s o.numbered (omega (arith, below, room)) o.made
+  after_sent : (store : StoreV) (msg : Msg) (at : ℕ) (served : Served) → AreRanges setup now (IsSeat setup count) clients (IsSent setup.servers) (sent_after sent (serve store msg at) served)
+  after_sent store msg at serves.Stopped = r
+  after_sent store msg at serves.Silent = msgs_sent r _ (answers_to setup.servers store (request_in msg) at)
+  after_sent store msg at (serves.Answered place) = msgs_sent r _ (answers_to setup.servers store (request_in msg) at)
+
+  pub served_sent : (store : StoreV) (msg : Msg) (at : ℕ) (served : Served) (sent' : List Msg) → sent' ≡ sent_after sent (serve store msg at) served → AreRanges setup now (IsSeat setup count) clients (IsSent setup.servers) sent'
+  served_sent store msg at served sent' is = subst (AreRanges setup now (IsSeat setup count) clients (IsSent setup.servers)) (sym is) (after_sent store msg at served)
+
+-- One part changed
+
+pub stores_set : {X : Type 0} {setup : Setup} {stores : List (Store X)} (k : ℕ) (store new : Store X) → AreStores setup stores → slice_get stores k ≡ Some store → (new.server ≡ store.server) × (new.setup ≡ store.setup) → AreStores setup (slice_set stores k new)
+stores_set {stores = stores} k store new are is same = record {
+  all = length_set stores k new ∙ are.all;
+  each = each_set k new are.each (same.0 ∙ (are.each.at k store is).0, same.1 ∙ (are.each.at k store is).1);
+}
+
+module _ {X : Type 0} {setup : Setup} {now count : ℕ} {stores : List (Store X)} {clients : List ClientV} {sent : List Msg} (r : IsRanged setup now count stores clients sent) where
+  -- no event more
+  pub ranged_still : (stores' : List (Store X)) (sent' : List Msg) → AreStores setup stores' → AreRanges setup now (IsSeat setup count) clients (IsSent setup.servers) sent' → IsRanged setup now count stores' clients sent'
+  ranged_still stores' sent' are ranges = record { ranges = ranges; all = r.all; events = r.events; stores' = are }
+
+  module _ (room : count < EVENTS) where
+    -- one event more, of a server
+    pub ranged_event : (stores' : List (Store X)) (sent' : List Msg) → AreStores setup stores' → AreRanges setup now (IsSeat setup count) clients (IsSent setup.servers) sent' → IsRanged setup now (count + 1) stores' clients sent'
+    ranged_event stores' sent' are ranges = record { ranges = seats_mapped ranges (IsSeat setup (count + 1)) (seat_more setup count); all = r.all; events = omega (arith, room); stores' = are }
+
+    -- of no one
+    pub ranged_count : IsRanged setup now (count + 1) stores clients sent
+    ranged_count = ranged_event stores sent r.stores' r.ranges
+
+    pub ranged_moment : (by : ℕ) → now + by < MOMENTS → IsRanged setup (now + by) (count + 1) stores clients sent
+    ranged_moment by below = let c = ranged_count in record { ranges = later c.ranges (now + by) below; all = r.all; events = c.events; stores' = r.stores' }
+
+    -- of a client, which sent a message or none
+    pub ranged_client : (k : ℕ) (client : ClientV) → IsSeat setup (count + 1) k client → IsRanged setup now (count + 1) stores (slice_set clients k client) sent
+    ranged_client k client s = let c = ranged_count in record { ranges = seat_set c.ranges k client s; all = length_set clients k client ∙ r.all; events = c.events; stores' = r.stores' }
+
+    pub ranged_sent : (k : ℕ) (client : ClientV) (msg : Msg) → IsSeat setup (count + 1) k client → IsSent setup.servers msg → IsRanged setup now (count + 1) stores (slice_set clients k client) (sent ++ msg ∷ [])
+    ranged_sent k client msg s good = let c = ranged_client k client s in record { ranges = msg_sent c.ranges msg good; all = c.all; events = c.events; stores' = r.stores' }
+
+-- there is room for an event, and the ranges are those of the value
+pub room_in : {X : Type 0} {was old : SimulationV X} → was ≡ old → old.count < EVENTS → was.count < EVENTS
+room_in {X = X} same room = subst (λ (v : SimulationV X). v.count < EVENTS) (sym same) room
+
+pub in_range : {X : Type 0} {was old : SimulationV X} → was ≡ old → InRange was → InRange old
+in_range {X = X} same ranges = subst (λ (v : SimulationV X). InRange v) same ranges

@@ -26,11 +26,11 @@ use Rattle.world.specs.Histories.{History, is_taken}
 use Rattle.world.specs.Worlds.{store_of}
 use Rattle.mds_base.proofs.Grow.{set_same}
 use Rattle.simulation.specs.Entries.{change_of, changes_of}
+use Rattle.simulation.specs.Moves.{restarted_by}
 use Rattle.simulation.specs.Stores.{IsRestarted, IsDownStill}
 use Rattle.simulation.specs.Shows.{SimulationV, Shows, Happens, StaysNear, IsServer, AreServers, made_of}
 use Rattle.simulation.proofs.Named.{await_same, still_named}
 use Rattle.simulation.proofs.Showing.{goes_on, one_longer}
-use Rattle.simulation.proofs.Stopping.{halted_by}
 use Rattle.simulation.proofs.Standing.{IsDownAs, as_down, server_of, servers_set}
 
 -- The entries of the records that were kept
@@ -96,10 +96,6 @@ may_restart : (state : ServerState) (kept : ℕ) → state.up ≡ false → IsAl
 may_restart state kept down (inl none) = and_from _ _ (ap not down) (or_first _ _ (eq-eqb kept 0 none))
 may_restart state kept down (inr all) = and_from _ _ (ap not down) (or_second _ _ (eq-eqb kept (length state.doubt) all))
 
--- the simulation once a server was restarted, and kept so many of its records in doubt
-abbrev pub restarted_by : {X : Type 0} → SimulationV X → ℕ → Store X → List Record → SimulationV X
-restarted_by old server store kept = record old { count = old.count + 1; stores = slice_set old.stores server store; made = old.made ++ changes_of kept }
-
 module _ {X : Type 0} (seen : X → Contents) (images : X → Image → Type 0) (setup : Setup) (number : ℕ) (old new : Store X) (state : ServerState) (i : IsServer seen images setup number old state) (d : IsDownAs seen images old state) where
   restarted_server : (kept now : ℕ) → IsRestarted seen images old new kept now → IsServer seen images setup number new (up_with state (restarted (replayed_all (store_of state) (take kept state.doubt)) now))
   restarted_server kept now s = record {
@@ -122,7 +118,7 @@ module _ {X : Type 0} (seen : X → Contents) (images : X → Image → Type 0) 
   }
 
 module _ {X : Type 0} (seen : X → Contents) (images : X → Image → Type 0) (old : SimulationV X) (server : ℕ) (store new : Store X) (is : slice_get old.stores server ≡ Some store) (is_down : store.up ≡ None) where
-  pub restart_happens : (kept : ℕ) → IsRestarted seen images store new kept old.moment → Happens seen images old (restarted_by old server new (take kept store.doubt)) (Restart server kept)
+  pub restart_happens : (kept : ℕ) → IsRestarted seen images store new kept old.moment → Happens seen images old (restarted_by old server new (old.made ++ changes_of (take kept store.doubt))) (Restart server kept)
   restart_happens kept s run shows =
       let h = server_of seen images old.setup old.stores run.trace.world.servers server store shows.servers is in
       let d = as_down seen images old.setup server store h.state h.good is_down in
@@ -130,7 +126,7 @@ module _ {X : Type 0} (seen : X → Contents) (images : X → Image → Type 0) 
       let follows = doubt_follows seen images old.setup server store new h.state h.good d in
       goes_on run (Restart server kept) (set_server run.trace.world server up)
       (past.replayed_all run.trace.past (store_of h.state) (take kept h.state.doubt))
-      (Shows seen images (restarted_by old server new (take kept store.doubt)))
+      (Shows seen images (restarted_by old server new (old.made ++ changes_of (take kept store.doubt))))
       (ap (λ o. can_restart o kept) h.is ∙ may_restart h.state kept d.stopped (subst (λ l. IsAllOrNone kept (length l)) d.doubt s.all_or_none))
       (ap (events.after_restart run.trace.world server kept) h.is)
       (ap (past.after_restart run.trace.past kept) h.is)
@@ -151,12 +147,12 @@ module _ {X : Type 0} (seen : X → Contents) (images : X → Image → Type 0) 
         taken = λ q. shows.taken q ∙ sym (ap (λ a. is_taken a q) (kept_answered run.trace.past (store_of h.state) (take kept h.state.doubt)));
       })
 
-  pub fail_happens : IsDownStill seen images store new → Happens seen images old (halted_by old server new) (Stop server Device)
+  pub fail_happens : IsDownStill seen images store new → Happens seen images old (restarted_by old server new old.made) (Stop server Device)
   fail_happens s run shows =
       let h = server_of seen images old.setup old.stores run.trace.world.servers server store shows.servers is in
       let d = as_down seen images old.setup server store h.state h.good is_down in
       let left : ServerState = record { node = h.state.node; rows = h.state.rows; up = false; doubt = h.state.doubt } in
-      goes_on run (Stop server Device) (set_server run.trace.world server left) run.trace.past (Shows seen images (halted_by old server new))
+      goes_on run (Stop server Device) (set_server run.trace.world server left) run.trace.past (Shows seen images (restarted_by old server new old.made))
       (ap events.is_there h.is)
       (ap (events.after_stop run.trace.world server) h.is)
       refl

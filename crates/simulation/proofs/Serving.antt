@@ -24,10 +24,13 @@ use Rattle.world.specs.Histories as past
 use Rattle.world.specs.Histories.{History, is_taken, served_one}
 use Rattle.world.specs.Worlds.{store_of, with_store}
 use Rattle.mds_base.proofs.Grow.{within}
-use Rattle.simulation.specs.Calls.{RepliesTo}
+use Rattle.simulation.specs.declared.servers.Served.TheVariants as serves
+use Rattle.simulation.specs.Calls.{RepliesTo, IsToServe}
+use Rattle.simulation.specs.Moves.{served_by}
 use Rattle.simulation.specs.Entries.{changes_of, lookup_of, with_one}
 use Rattle.simulation.specs.Runs.{RunV, GoesOn, is_named, names}
 use Rattle.simulation.specs.Shows.{SimulationV, Shows, Happens, IsServerAt, IsServer, waiting_cmp, server_for, is_request_of}
+use Rattle.simulation.specs.Stores.{IsServedOn, IsStoppedOn}
 use Rattle.simulation.proofs.Named.{Await, AreNamed, for_server}
 use Rattle.simulation.proofs.Outputs.{IsFirstFor, for_none, first_for, serve_makes, serve_answered}
 use Rattle.simulation.proofs.Sets.{waiting_total, exact_waiting, remove_here, remove_apart, number_or_apart}
@@ -106,40 +109,6 @@ module _ (waiting : set.FinSet waiting_cmp) (sent : List Msg) (events : List Eve
   named_quiet = subst (λ l. AreNamed l (events ++ Serve server (place ∷ []) how ∷ [])) (append-nil sent)
       (named_served waiting sent events await named server place how msg [] there)
 
--- the simulation once a Serve of a message was done, with the server's new store and what it handed out
-abbrev pub served_by : {X : Type 0} → SimulationV X → ℕ → ℕ → Store X → Msg → List Record → List Msg → SimulationV X
-served_by old server place store msg records outputs =
-    record {
-      setup = old.setup;
-      moment = old.moment;
-      count = old.count + 1;
-      stores = slice_set old.stores server store;
-      clients = old.clients;
-      sent = old.sent ++ outputs;
-      waiting = set.remove old.waiting (server, place);
-      made = with_one (old.made ++ changes_of records) (lookup_of msg outputs (length old.sent));
-      taken = old.taken;
-    }
-
--- the simulation once the device stopped a Serve
-abbrev pub stopped_by : {X : Type 0} → SimulationV X → ℕ → ℕ → Store X → SimulationV X
-stopped_by old server place store = record old { count = old.count + 1; stores = slice_set old.stores server store; waiting = set.remove old.waiting (server, place) }
-
--- a server with its new store, which is up as before
-pub record IsServedStore {X : Type 0} (seen : X → Contents) (old new : Store X) (up : StoreV) : Type 0 where
-  pub told : is_some (seen old.disk 1) ≡ true → is_some (seen new.disk 1) ≡ true
-  pub server : new.server ≡ old.server
-  pub setup : new.setup ≡ old.setup
-  pub up' : new.up ≡ Some up
-
--- a server that went down, with these records in doubt
-pub record IsStoppedStore {X : Type 0} (seen : X → Contents) (images : X → Image → Type 0) (old new : Store X) (up : StoreV) (records : List Record) : Type 0 where
-  pub told : is_some (seen old.disk 1) ≡ true → is_some (seen new.disk 1) ≡ true
-  pub server : new.server ≡ old.server
-  pub setup : new.setup ≡ old.setup
-  pub at : IsDownAt seen images new up
-  pub doubt : new.doubt ≡ records
-
 can_serve_up : (state : ServerState) (up : StoreV) → IsUpAs state up → has_numbers up.node ≡ true → can_serve (Some state) ≡ true
 can_serve_up state up u numbers = and_from _ _ u.running (ap (λ (s : StoreV). has_numbers s.node) u.same ∙ numbers)
 
@@ -149,7 +118,7 @@ may_serve servers sent server place state msg at there is can =
     and_from _ _ (ap can_serve at ∙ can) (and_from _ _ (ap (is_for_server server) there ∙ for_server server server msg is ∙ eq-eqb server server refl) refl)
 
 module _ {X : Type 0} (seen : X → Contents) (images : X → Image → Type 0) (setup : Setup) (number : ℕ) (old new : Store X) (state : ServerState) (up : StoreV) (i : IsServer seen images setup number old state) (u : IsUpAs state up) where
-  served_server : (next : StoreV) → IsServedStore seen old new next → IsServer seen images setup number new (with_store state next)
+  served_server : (next : StoreV) → IsServedOn seen old new next → IsServer seen images setup number new (with_store state next)
   served_server next s = record {
     told = s.told i.told;
     server = s.server ∙ i.server;
@@ -157,21 +126,13 @@ module _ {X : Type 0} (seen : X → Contents) (images : X → Image → Type 0) 
     at = subst (λ b. IsServerAt seen images new (with_store state next) b) (sym u.running) (s.up', u.sure);
   }
 
-  stopped_server : (records : List Record) → IsStoppedStore seen images old new up records → IsServer seen images setup number new (record { node = state.node; rows = state.rows; up = false; doubt = records })
+  stopped_server : (records : List Record) → IsStoppedOn seen images old new up records → IsServer seen images setup number new (record { node = state.node; rows = state.rows; up = false; doubt = records })
   stopped_server records s = record {
     told = s.told i.told;
     server = s.server ∙ i.server;
     setup' = s.setup ∙ i.setup';
     at = (subst (IsDownAt seen images new) (sym u.same) s.at, s.doubt);
   }
-
--- what a Serve of the message at a place comes upon
-pub record IsToServe {X : Type 0} (old : SimulationV X) (server place : ℕ) (store : Store X) (up : StoreV) (msg : Msg) : Type 0 where
-  pub is : slice_get old.stores server ≡ Some store
-  pub up' : store.up ≡ Some up
-  pub numbers : has_numbers up.node ≡ true
-  pub there : slice_get old.sent place ≡ Some msg
-  pub meant : server_for (Some msg) ≡ Some server
 
 module _ {X : Type 0} (seen : X → Contents) (images : X → Image → Type 0) (old : SimulationV X) (run : RunV) (shows : Shows seen images old run) (server place : ℕ) (store new : Store X) (state : ServerState) (up : StoreV) (msg : Msg)
     (at : slice_get run.trace.world.servers server ≡ Some state) (good : IsServer seen images old.setup server store state) (u : IsUpAs state (store_of state)) (numbers : has_numbers state.node ≡ true)
@@ -182,15 +143,15 @@ module _ {X : Type 0} (seen : X → Contents) (images : X → Image → Type 0) 
   msgs_there : msgs_at run.trace.world.sent (place ∷ []) ≡ msg ∷ []
   msgs_there = ap (λ o. onto_msgs o []) there_too
 
-  served_at : IsServedStore seen store new (serve (store_of state) msg run.trace.world.now).store
+  served_at : IsServedOn seen store new (serve (store_of state) msg run.trace.world.now).store
       → GoesOn run (Serve server (place ∷ []) ends.Done)
-      (Shows seen images (served_by old server place new msg (serve (store_of state) msg run.trace.world.now).records (serve (store_of state) msg run.trace.world.now).outputs))
+      (Shows seen images (served_by old server place new msg (serve (store_of state) msg run.trace.world.now) serves.Silent))
   served_at s =
       let given = serve (store_of state) msg run.trace.world.now in
       goes_on run (Serve server (place ∷ []) ends.Done)
       (say (set_server run.trace.world server (with_store state given.store)) (given.outputs ++ []))
       (served_one run.trace.past (store_of state) msg run.trace.world.now (length run.trace.world.sent))
-      (Shows seen images (served_by old server place new msg given.records given.outputs))
+      (Shows seen images (served_by old server place new msg given serves.Silent))
       (may_serve run.trace.world.servers run.trace.world.sent server place state msg at there_too meant (can_serve_up state (store_of state) u numbers))
       (ap (events.after_serve run.trace.world server (place ∷ []) ends.Done) at
       ∙ ap (λ msgs. events.after_serve_of run.trace.world server state (serve_all (store_of state) msgs run.trace.world.now) ends.Done) msgs_there)
@@ -213,15 +174,15 @@ module _ {X : Type 0} (seen : X → Contents) (images : X → Image → Type 0) 
         taken = λ q. shows.taken q ∙ sym (ap (λ a. is_taken a q) (serve_answered run.trace.past (store_of state) msg run.trace.world.now (length run.trace.world.sent)));
       })
 
-  stopped_at : IsStoppedStore seen images store new (store_of state) (serve (store_of state) msg run.trace.world.now).records
-      → GoesOn run (Serve server (place ∷ []) ends.Stop) (Shows seen images (stopped_by old server place new))
+  stopped_at : IsStoppedOn seen images store new (store_of state) (serve (store_of state) msg run.trace.world.now).records
+      → GoesOn run (Serve server (place ∷ []) ends.Stop) (Shows seen images (served_by old server place new msg (serve (store_of state) msg run.trace.world.now) serves.Stopped))
   stopped_at s =
       let given = serve (store_of state) msg run.trace.world.now in
       let left : ServerState = record { node = state.node; rows = state.rows; up = false; doubt = given.records ++ [] } in
       goes_on run (Serve server (place ∷ []) ends.Stop)
       (set_server run.trace.world server left)
       run.trace.past
-      (Shows seen images (stopped_by old server place new))
+      (Shows seen images (served_by old server place new msg (serve (store_of state) msg run.trace.world.now) serves.Stopped))
       (may_serve run.trace.world.servers run.trace.world.sent server place state msg at there_too meant (can_serve_up state (store_of state) u numbers))
       (ap (events.after_serve run.trace.world server (place ∷ []) ends.Stop) at
       ∙ ap (λ msgs. events.after_serve_of run.trace.world server state (serve_all (store_of state) msgs run.trace.world.now) ends.Stop) msgs_there)
@@ -243,31 +204,25 @@ module _ {X : Type 0} (seen : X → Contents) (images : X → Image → Type 0) 
       })
 
 module _ {X : Type 0} (seen : X → Contents) (images : X → Image → Type 0) (old : SimulationV X) (server place : ℕ) (store new : Store X) (up : StoreV) (msg : Msg) (t : IsToServe old server place store up msg) where
-  pub serve_happens : (records : List Record) (outputs : List Msg) → IsServedStore seen store new (serve up msg old.moment).store → records ≡ (serve up msg old.moment).records → outputs ≡ (serve up msg old.moment).outputs
-      → Happens seen images old (served_by old server place new msg records outputs) (Serve server (place ∷ []) ends.Done)
-  serve_happens records outputs s kept sent run shows =
+  pub serve_happens : IsServedOn seen store new (serve up msg old.moment).store → Happens seen images old (served_by old server place new msg (serve up msg old.moment) serves.Silent) (Serve server (place ∷ []) ends.Done)
+  serve_happens s run shows =
       let h = server_of seen images old.setup old.stores run.trace.world.servers server store shows.servers t.is in
       let u = as_up seen images old.setup server store h.state up h.good t.up' in
-      let done = subst (λ m. IsServedStore seen store new (serve (store_of h.state) msg m).store
-      → GoesOn run (Serve server (place ∷ []) ends.Done) (Shows seen images (served_by old server place new msg (serve (store_of h.state) msg m).records (serve (store_of h.state) msg m).outputs)))
+      let done = subst (λ m. IsServedOn seen store new (serve (store_of h.state) msg m).store → GoesOn run (Serve server (place ∷ []) ends.Done) (Shows seen images (served_by old server place new msg (serve (store_of h.state) msg m) serves.Silent)))
       shows.moment
       (served_at seen images old run shows server place store new h.state up msg h.is h.good (record { running = u.running; same = refl; sure = u.sure })
       (ap (λ (v : StoreV). has_numbers v.node) u.same ∙ t.numbers) t.there t.meant) in
-      let at = subst (λ v. IsServedStore seen store new (serve v msg old.moment).store
-      → GoesOn run (Serve server (place ∷ []) ends.Done) (Shows seen images (served_by old server place new msg (serve v msg old.moment).records (serve v msg old.moment).outputs)))
-      u.same done s in
-      subst (λ r. GoesOn run (Serve server (place ∷ []) ends.Done) (Shows seen images (served_by old server place new msg r outputs))) (sym kept)
-      (subst (λ o. GoesOn run (Serve server (place ∷ []) ends.Done) (Shows seen images (served_by old server place new msg (serve up msg old.moment).records o))) (sym sent) at)
+      subst (λ v. IsServedOn seen store new (serve v msg old.moment).store → GoesOn run (Serve server (place ∷ []) ends.Done) (Shows seen images (served_by old server place new msg (serve v msg old.moment) serves.Silent))) u.same done s
 
-  pub stop_happens : IsStoppedStore seen images store new up (serve up msg old.moment).records → Happens seen images old (stopped_by old server place new) (Serve server (place ∷ []) ends.Stop)
+  pub stop_happens : IsStoppedOn seen images store new up (serve up msg old.moment).records → Happens seen images old (served_by old server place new msg (serve up msg old.moment) serves.Stopped) (Serve server (place ∷ []) ends.Stop)
   stop_happens s run shows =
       let h = server_of seen images old.setup old.stores run.trace.world.servers server store shows.servers t.is in
       let u = as_up seen images old.setup server store h.state up h.good t.up' in
-      let done = subst (λ m. IsStoppedStore seen images store new (store_of h.state) (serve (store_of h.state) msg m).records → GoesOn run (Serve server (place ∷ []) ends.Stop) (Shows seen images (stopped_by old server place new)))
+      let done = subst (λ m. IsStoppedOn seen images store new (store_of h.state) (serve (store_of h.state) msg m).records → GoesOn run (Serve server (place ∷ []) ends.Stop) (Shows seen images (served_by old server place new msg (serve up msg old.moment) serves.Stopped)))
       shows.moment
       (stopped_at seen images old run shows server place store new h.state up msg h.is h.good (record { running = u.running; same = refl; sure = u.sure })
       (ap (λ (v : StoreV). has_numbers v.node) u.same ∙ t.numbers) t.there t.meant) in
-      subst (λ v. IsStoppedStore seen images store new v (serve v msg old.moment).records → GoesOn run (Serve server (place ∷ []) ends.Stop) (Shows seen images (stopped_by old server place new))) u.same done s
+      subst (λ v. IsStoppedOn seen images store new v (serve v msg old.moment).records → GoesOn run (Serve server (place ∷ []) ends.Stop) (Shows seen images (served_by old server place new msg (serve up msg old.moment) serves.Stopped))) u.same done s
 
 -- a reply of a Serve is for the client that asked
 pub replies_to : {X : Type 0} (old new : SimulationV X) (place : ℕ) (store : StoreV) (msg : Msg) (now : ℕ) (first : Msg) (outputs : List Msg) → slice_get old.sent place ≡ Some msg → (serve store msg now).outputs ≡ first ∷ outputs

@@ -9,6 +9,7 @@ use Rattle.world.specs.declared.event.Event.TheVariants.{Tick}
 use Rattle.world.specs.Events.{enabled, step}
 use Rattle.world.specs.Histories.{History, note, counted}
 use Rattle.world.specs.Worlds.{WorldV}
+use Rattle.simulation.specs.Moves.{ticked}
 use Rattle.simulation.specs.Runs.{RunV, GoesOn}
 use Rattle.node_store.specs.Store.{Store}
 use Rattle.simulation.specs.Shows.{SimulationV, AreServers, Shows, Happens, StaysNear}
@@ -37,9 +38,9 @@ module _ {X : Type 0} (seen : X → Contents) (images : X → Image → Type 0) 
   pub stays_near : (old new : SimulationV X) → new.stores ≡ old.stores → StaysNear seen images old new
   stays_near old new same run shows = inl (subst (λ (l : List (Store X)). AreServers seen images old.setup l run.trace.world.servers) (sym same) shows.servers)
 
-  pub ticked : (old : SimulationV X) (by : ℕ) → old.moment + by < MOMENTS → Happens seen images old (record old { moment = old.moment + by; count = old.count + 1 }) (Tick by)
-  ticked old by below run shows =
-      goes_on run (Tick by) (record run.trace.world { now = run.trace.world.now + by }) run.trace.past (Shows seen images (record old { moment = old.moment + by; count = old.count + 1 }))
+  pub tick_happens : (old : SimulationV X) (by : ℕ) → old.moment + by < MOMENTS → Happens seen images old (ticked old by) (Tick by)
+  tick_happens old by below run shows =
+      goes_on run (Tick by) (record run.trace.world { now = run.trace.world.now + by }) run.trace.past (Shows seen images (ticked old by))
       (lt-ltb (run.trace.world.now + by) MOMENTS (subst (λ n. n + by < MOMENTS) (sym shows.moment) below)) refl refl
       (record {
         setup = shows.setup;

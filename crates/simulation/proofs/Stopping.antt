@@ -1,5 +1,5 @@
 -- A message meets a server that is down, and a server is stopped.
-use Rattle.std.proofs.Common.{◌≡◌, ◌∙◌, sym, ap, subst, refl, ℕ, ◌+◌, ◌&&◌, not, true, false, is_some, List, [], Some, None, inr}
+use Rattle.std.proofs.Common.{◌≡◌, ◌∙◌, sym, ap, subst, refl, ℕ, ◌+◌, ◌<◌, ◌&&◌, not, true, false, is_some, List, [], length, Option, Some, None, inr, arith}
 use Rattle.std.specs.Prelude.{slice_set}
 use Rattle.std.specs.List.{slice_get}
 use Rattle.mds_out.specs.Disk.{Image, Contents}
@@ -13,11 +13,13 @@ use Rattle.world.specs.declared.event.StopCause.TheVariants.{Asked}
 use Rattle.world.specs.declared.state.ServerState.{ServerState}
 use Rattle.world.specs.Events as events
 use Rattle.world.specs.Events.{set_server, misses}
+use Rattle.simulation.specs.Calls.{CanMiss}
+use Rattle.simulation.specs.Moves.{counted, halt, halted_by}
 use Rattle.simulation.specs.Runs.{grown}
-use Rattle.simulation.specs.Shows.{SimulationV, Shows, Happens, StaysNear, AreServers, server_for}
+use Rattle.simulation.specs.Shows.{SimulationV, Shows, Happens, StaysNear, AreServers, server_for, store_is_up}
 use Rattle.simulation.proofs.Named.{await_same, still_named}
-use Rattle.simulation.proofs.Showing.{goes_on, one_longer}
-use Rattle.simulation.proofs.Standing.{as_up, as_down, server_of, servers_set}
+use Rattle.simulation.proofs.Showing.{goes_on, one_longer, happens_from}
+use Rattle.simulation.proofs.Standing.{at_place, not_up, as_up, as_down, server_of, servers_set}
 
 -- a refused call that left the servers as a further event would leaves them near the run
 pub near_after : {X : Type 0} (seen : X → Contents) (images : X → Image → Type 0) (old mid new : SimulationV X) (event : Event) → mid.setup ≡ old.setup → new.stores ≡ mid.stores → Happens seen images old mid event → StaysNear seen images old new
@@ -50,11 +52,11 @@ misses_there servers (Closed to seq attempt part epoch) server state meant is do
 
 module _ {X : Type 0} (seen : X → Contents) (images : X → Image → Type 0) (old : SimulationV X) where
   pub miss_happens : (place server : ℕ) (store : Store X) (msg : Msg) → slice_get old.sent place ≡ Some msg → server_for (Some msg) ≡ Some server → slice_get old.stores server ≡ Some store → store.up ≡ None
-      → Happens seen images old (record old { count = old.count + 1 }) (Miss place)
+      → Happens seen images old (counted old) (Miss place)
   miss_happens place server store msg there meant is down run shows =
       let h = server_of seen images old.setup old.stores run.trace.world.servers server store shows.servers is in
       let d = as_down seen images old.setup server store h.state h.good down in
-      goes_on run (Miss place) run.trace.world run.trace.past (Shows seen images (record old { count = old.count + 1 }))
+      goes_on run (Miss place) run.trace.world run.trace.past (Shows seen images (counted old))
       (ap (misses run.trace.world.servers) (ap (λ l. slice_get l place) shows.sent ∙ there) ∙ misses_there run.trace.world.servers msg server h.state meant h.is d.stopped)
       refl
       refl
@@ -72,11 +74,21 @@ module _ {X : Type 0} (seen : X → Contents) (images : X → Image → Type 0) 
         taken = shows.taken;
       })
 
--- A server is stopped
+-- a message that is for a server
+pub is_for : (o : Option Msg) (server : ℕ) → server_for o ≡ Some server → (msg : Msg) × (o ≡ Some msg)
+is_for None server e = cc
+is_for (Some msg) server e = (msg, refl)
 
--- the simulation once a server was stopped
-abbrev pub halted_by : {X : Type 0} → SimulationV X → ℕ → Store X → SimulationV X
-halted_by old server store = record old { count = old.count + 1; stores = slice_set old.stores server store }
+pub missed_happens : {X : Type 0} (seen : X → Contents) (images : X → Image → Type 0) {was old : SimulationV X} (same : was ≡ old) (place : ℕ) → CanMiss old place → length was.stores ≡ was.setup.servers → Happens seen images old (counted was) (Miss place)
+missed_happens {X = X} seen images {was = was} {old = old} same place can all =
+    let c = subst (λ (v : SimulationV X). CanMiss v place) (sym same) can in
+    let m = is_for (slice_get was.sent place) c.server c.is in
+    let there = c.there in
+    let s = at_place was.stores c.server (omega (arith, there, all)) in
+    happens_from seen images was old _ (Miss place) same
+    (miss_happens seen images was place c.server s.item m.0 m.1 (sym (ap server_for m.1) ∙ c.is) s.is (not_up s.item.up (λ up. c.down (ap store_is_up s.is ∙ up))))
+
+-- A server is stopped
 
 -- a server of which nothing changed but that it is down now
 pub record IsHaltedStore {X : Type 0} (seen : X → Contents) (images : X → Image → Type 0) (old new : Store X) (up : StoreV) : Type 0 where
@@ -85,6 +97,15 @@ pub record IsHaltedStore {X : Type 0} (seen : X → Contents) (images : X → Im
   pub setup : new.setup ≡ old.setup
   pub at : IsDownAt seen images new up
   pub sure : new.doubt ≡ []
+
+pub is_halted : {X : Type 0} (seen : X → Contents) (images : X → Image → Type 0) {store new : Store X} (up : StoreV) → new ≡ halt store → new.doubt ≡ [] → ((s : StoreV) → store.up ≡ Some s → IsDownAt seen images new s) → store.up ≡ Some up → IsHaltedStore seen images store new up
+is_halted {X = X} seen images up same sure at is = record {
+  told = λ e. ap (λ (s : Store X). is_some (seen s.disk 1)) same ∙ e;
+  server = ap (λ (s : Store X). s.server) same;
+  setup = ap (λ (s : Store X). s.setup) same;
+  at = at up is;
+  sure = sure;
+}
 
 module _ {X : Type 0} (seen : X → Contents) (images : X → Image → Type 0) (old : SimulationV X) (server : ℕ) (store new : Store X) (is : slice_get old.stores server ≡ Some store) where
   pub halt_happens : (up : StoreV) → store.up ≡ Some up → IsHaltedStore seen images store new up → Happens seen images old (halted_by old server new) (Stop server Asked)

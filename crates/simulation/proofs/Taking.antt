@@ -1,5 +1,5 @@
 -- A client takes a message.
-use Rattle.std.proofs.Common.{◌≡◌, ◌∙◌, sym, ap, subst, refl, ℕ, ◌+◌, ◌<◌, ◌==◌, Bool, true, false, List, [], ◌∷◌, ◌++◌, Option, Some, None, inl, inr}
+use Rattle.std.proofs.Common.{◌≡◌, ◌∙◌, sym, ap, subst, refl, ℕ, ◌+◌, ◌<◌, ◌==◌, Bool, true, false, is_some, List, [], ◌∷◌, ◌++◌, Option, Some, None, inl, inr}
 use Rattle.std.specs.Prelude.{slice_set, ◌||◌}
 use Rattle.std.specs.Prelude.{map as list_map}
 use Rattle.std.specs.List.{slice_get}
@@ -26,27 +26,12 @@ use Rattle.world.specs.Histories.{History, AnsweredV, is_taken}
 use Rattle.mds_base.proofs.Grow.{each_set}
 use Rattle.simulation.specs.Runs.{RunV, GoesOn}
 use Rattle.simulation.specs.Shows.{SimulationV, Shows, Happens, client_at, made_of}
-use Rattle.simulation.specs.Calls.{noting}
+use Rattle.simulation.specs.Moves.{noting, took_by, taken_as, taken_by}
 use Rattle.simulation.proofs.Named.{await_same, still_named}
-use Rattle.simulation.proofs.Seats.{seats_set}
-use Rattle.simulation.proofs.Sending.{seat_going, seat_here}
+use Rattle.simulation.proofs.Seats.{client_in, client_is, seats_moved}
+use Rattle.simulation.proofs.Sending.{HasNumbers, seat_going}
 use Rattle.simulation.proofs.Sets.{insert_here, insert_apart, number_or_apart}
 use Rattle.simulation.proofs.Showing.{goes_on, one_longer}
-
--- the simulation once a client took a message
-abbrev pub taken_by : {X : Type 0} → SimulationV X → ℕ → taking.Took → ℕ → SimulationV X
-taken_by old k took place =
-    record {
-      setup = old.setup;
-      moment = old.moment;
-      count = old.count + 1;
-      stores = old.stores;
-      clients = slice_set old.clients k took.client;
-      sent = old.sent;
-      waiting = old.waiting;
-      made = old.made;
-      taken = noting old.taken took.taken place;
-    }
 
 -- the history once a client took a message
 
@@ -103,16 +88,16 @@ has_room_of None room = refl
 has_room_of (Some pending) room = lt-ltb pending.attempt ATTEMPTS room
 
 module _ {X : Type 0} (seen : X → Contents) (images : X → Image → Type 0) (old : SimulationV X) (run : RunV) (shows : Shows seen images old run) where
-  taken_at : (number place : ℕ) (seat : ClientState) (msg : Msg) → seat_at run.trace.world.clients number ≡ Some seat → seat.quit ≡ false → slice_get old.sent place ≡ Some msg → is_for_client number (Some msg) ≡ true
-      → seat.client.seq < CALLS → HasRoom seat.client.pending
-      → GoesOn run (Take number place) (Shows seen images (taken_by old (index_of number) (taking.take seat.client msg) place))
-  taken_at number place seat msg is going there meant few room =
-      let sent : slice_get run.trace.world.sent place ≡ Some msg = ap (λ l. slice_get l place) shows.sent ∙ there in
+  taken_at : (number place : ℕ) (o : Option ClientState) (m : Option Msg) → seat_at run.trace.world.clients number ≡ o → slice_get run.trace.world.sent place ≡ m → is_some (client_in o) ≡ true → is_for_client number m ≡ true → HasNumbers (client_in o)
+      → GoesOn run (Take number place) (Shows seen images (taken_as old number place (client_in o) m))
+  taken_at number place None m is sent there meant few = cc
+  taken_at number place (Some seat) None is sent there meant few = cc
+  taken_at number place (Some seat) (Some msg) is sent there meant few =
       goes_on run (Take number place)
       (set_client run.trace.world number (with_client seat (taking.take seat.client msg).client))
       (past.after_take_of run.trace.past number seat.client place msg seat.client.pending)
-      (Shows seen images (taken_by old (index_of number) (taking.take seat.client msg) place))
-      (and_from _ _ (ap can_take is ∙ and_from _ _ (lt-ltb seat.client.seq CALLS few) (has_room_of seat.client.pending room)) (ap (is_for_client number) sent ∙ meant))
+      (Shows seen images (took_by old number place (taking.take seat.client msg)))
+      (and_from _ _ (ap can_take is ∙ and_from _ _ (lt-ltb seat.client.seq CALLS few.0) (has_room_of seat.client.pending few.1)) (ap (is_for_client number) sent ∙ meant))
       (ap (events.after_take run.trace.world number (slice_get run.trace.world.sent place)) is ∙ ap (events.after_take_of run.trace.world number seat) sent)
       (ap (λ m. past.after_take run.trace.past number place m (seat_at run.trace.world.clients number)) sent ∙ ap (past.after_take run.trace.past number place (Some msg)) is)
       (record {
@@ -120,8 +105,8 @@ module _ {X : Type 0} (seen : X → Contents) (images : X → Image → Type 0) 
         moment = shows.moment;
         count = one_longer run.events (Take number place) old.count shows.count;
         servers = shows.servers;
-        clients = seats_set run.trace.world.clients (index_of number) (with_client seat (taking.take seat.client msg).client) ∙ ap (λ l. slice_set l (index_of number) (taking.take seat.client msg).client) shows.clients;
-        going_on = each_set (index_of number) (with_client seat (taking.take seat.client msg).client) shows.going_on going;
+        clients = seats_moved run.trace.world.clients old.clients number (with_client seat (taking.take seat.client msg).client) shows.clients;
+        going_on = each_set (index_of number) (with_client seat (taking.take seat.client msg).client) shows.going_on (seat_going seen images old run shows number seat is);
         sent = shows.sent;
         named = still_named old.waiting old.sent run.events shows.waiting shows.named (Take number place) (λ k. refl);
         waiting = await_same old.waiting old.sent run.events shows.waiting shows.named (Take number place) (λ k. refl);
@@ -129,11 +114,11 @@ module _ {X : Type 0} (seen : X → Contents) (images : X → Image → Type 0) 
         taken = noted_take run.trace.past number seat.client place msg seat.client.pending old.taken shows.taken;
       })
 
-pub take_happens : {X : Type 0} (seen : X → Contents) (images : X → Image → Type 0) (old : SimulationV X) (number place : ℕ) (client : ClientV) (msg : Msg) → client_at old.clients number ≡ Some client → slice_get old.sent place ≡ Some msg
-    → is_for_client number (Some msg) ≡ true → client.seq < CALLS → HasRoom client.pending
-    → Happens seen images old (taken_by old (index_of number) (taking.take client msg) place) (Take number place)
-take_happens seen images old number place client msg is there meant few room run shows =
-    let s = seat_here seen images old run shows number client is in
-    subst (λ c. GoesOn run (Take number place) (Shows seen images (taken_by old (index_of number) (taking.take c msg) place))) s.same
-    (taken_at seen images old run shows number place s.seat msg s.is (seat_going seen images old run shows number s.seat s.is) there meant
-    (subst (λ (c : ClientV). c.seq < CALLS) (sym s.same) few) (subst (λ (c : ClientV). HasRoom c.pending) (sym s.same) room))
+pub taken_happens : {X : Type 0} (seen : X → Contents) (images : X → Image → Type 0) (old : SimulationV X) (number : ℕ) → HasNumbers (client_at old.clients number) → (place : ℕ) → is_some (client_at old.clients number) ≡ true → is_for_client number (slice_get old.sent place) ≡ true
+    → Happens seen images old (taken_by old number place) (Take number place)
+taken_happens seen images old number few place there meant run shows =
+    let e = client_is run.trace.world.clients old.clients number shows.clients in
+    let m : slice_get old.sent place ≡ slice_get run.trace.world.sent place = ap (λ l. slice_get l place) (sym shows.sent) in
+    subst (λ o. GoesOn run (Take number place) (Shows seen images (taken_as old number place o (slice_get old.sent place)))) (sym e)
+    (subst (λ o. GoesOn run (Take number place) (Shows seen images (taken_as old number place (client_in (seat_at run.trace.world.clients number)) o))) (sym m)
+    (taken_at seen images old run shows number place (seat_at run.trace.world.clients number) (slice_get run.trace.world.sent place) refl refl (subst (λ o. is_some o ≡ true) e there) (subst (λ o. is_for_client number o ≡ true) m meant) (subst HasNumbers e few)))

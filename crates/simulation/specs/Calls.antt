@@ -2,23 +2,25 @@
 use Rattle.std.specs.Prelude.{◌≡◌, ◌≢◌, ℕ, ◌+◌, ◌<◌, ◌≤◌, true, List, [], ◌∷◌, ◌++◌, length, Option, Some, None, Result, IfOk, OnOk, OnErr}
 use Rattle.std.specs.List.{slice_get}
 use Rattle.std.specs.FinSet as set
-use Rattle.std.specs.Ordering.{nat_cmp}
 use Rattle.std.specs.declared.alloc.AllocError.{AllocError}
 use Rattle.client_core.specs.declared.taken.Taken.{Taken}
-use Rattle.client_core.specs.declared.taken.Taken.TheVariants.{Answer}
 use Rattle.client_core.specs.Clients.{ClientV}
 use Rattle.client_core.specs.Taking as taking
 use Rattle.mds_out.specs.Disk.{Image, Contents}
-use Rattle.mds_out.specs.Fault.{Rose}
-use Rattle.mds_out.specs.Fused.{Fused}
+use Rattle.node_core.specs.Nodes.{StoreV, has_numbers}
+use Rattle.node_core.specs.Serving.{serve}
 use Rattle.node_store.specs.Store.{Store}
 use Rattle.records.specs.declared.msg.Msg.{Msg}
+use Rattle.simulation.specs.declared.made.Made.{Made}
 use Rattle.simulation.specs.declared.servers.Served.{Served}
 use Rattle.simulation.specs.declared.servers.Served.TheVariants as serves
 use Rattle.simulation.specs.declared.servers.Restarted.{Restarted}
 use Rattle.simulation.specs.declared.servers.Restarted.TheVariants as restarts
+use Rattle.simulation.specs.Entries.{ended_by}
+use Rattle.simulation.specs.Moves.{awaiting, sent_after, made_after, served_by, restarted_by}
 use Rattle.simulation.specs.Runs.{RunV, GoesOn}
 use Rattle.simulation.specs.Shows.{SimulationV, Shows, Happens, waiting_cmp, server_for, is_up, has_numbers_at, is_request_of}
+use Rattle.simulation.specs.Stores.{EndsOn, RestartsOn}
 use Rattle.world.specs.declared.event.Event.TheVariants.{Serve, Stop, Restart}
 use Rattle.world.specs.declared.event.ServeEnd.TheVariants as ends
 use Rattle.world.specs.declared.event.StopCause.TheVariants.{Device}
@@ -66,30 +68,50 @@ abbrev pub taken_of : Option ClientV → Option Msg → Option Taken
 taken_of (Some client) (Some msg) = Some (taking.take client msg).taken
 taken_of client msg = None
 
--- how often the disk of a server has failed
-abbrev pub faults_of : {X : Type 0} → (X → ℕ) → Option (Store X) → ℕ
-faults_of faults None = 0
-faults_of faults (Some store) = faults store.disk
-
-abbrev pub faults_at : {X : Type 0} → (X → ℕ) → SimulationV X → ℕ → ℕ
-faults_at faults sim server = faults_of faults (slice_get sim.stores server)
-
--- the count of a server's disk rose
-abbrev pub RoseAt : {X : Type 0} → (X → ℕ) → SimulationV X → SimulationV X → ℕ → Type 0
-RoseAt faults old new server = Rose (faults_at faults old server) (faults_at faults new server)
-
 -- only this server changed
 abbrev pub OthersStay : {X : Type 0} → SimulationV X → SimulationV X → ℕ → Type 0
 OthersStay old new server = (other : ℕ) → other ≢ server → slice_get new.stores other ≡ slice_get old.stores other
 
--- a server whose disk's next calls pass, so many, before later ones fail
-abbrev pub armed : {D : Type 0} → Store (Fused D) → ℕ → Store (Fused D)
-armed store calls = record store { disk = record store.disk { left = Some calls } }
+-- what a Serve of the message at a place comes upon: the server on its disk, up with this, and the message
+pub record IsToServe {X : Type 0} (old : SimulationV X) (server place : ℕ) (store : Store X) (up : StoreV) (msg : Msg) : Type 0 where
+  pub is : slice_get old.stores server ≡ Some store
+  pub up' : store.up ≡ Some up
+  pub numbers : has_numbers up.node ≡ true
+  pub there : slice_get old.sent place ≡ Some msg
+  pub meant : server_for (Some msg) ≡ Some server
 
--- the messages that wait once one more was sent to stand at this place
-abbrev pub awaiting : set.FinSet waiting_cmp → Option ℕ → ℕ → set.FinSet waiting_cmp
-awaiting waiting None place = waiting
-awaiting waiting (Some server) place = set.insert waiting (server, place)
+-- a Serve that was done tells of the first message that it sent to stand at this place, or of none
+abbrev pub TellsOf : List Msg → ℕ → Served → Type 0
+TellsOf outputs place serves.Stopped = Unit {0}
+TellsOf outputs place served = served ≡ ended_by outputs place
+
+-- a Serve ended so: with the server's new store the simulation is what that makes of it
+pub record IsServe {X : Type 0} (seen : X → Contents) (images : X → Image → Type 0) (faults : X → ℕ) (old new : SimulationV X) (server place : ℕ) (served : Served) : Type 0 where
+  pub was : Store X
+  pub up : StoreV
+  pub msg : Msg
+  pub to : IsToServe old server place was up msg
+  pub store : Store X
+  pub leaves : EndsOn seen images faults was store up (serve up msg old.moment) served
+  pub tells : TellsOf (serve up msg old.moment).outputs (length old.sent) served
+  pub after : new ≡ served_by old server place store msg (serve up msg old.moment) served
+
+-- the parts that such a Serve changes
+pub record ServesOn {X : Type 0} (seen : X → Contents) (images : X → Image → Type 0) (faults : X → ℕ) (old new : Store X) (up : StoreV) (msg : Msg) (now : ℕ) (sent sent' : List Msg) (made made' : List Made) (served : Served) : Type 0 where
+  pub leaves : EndsOn seen images faults old new up (serve up msg now) served
+  pub tells : TellsOf (serve up msg now).outputs (length sent) served
+  pub sends : sent' ≡ sent_after sent (serve up msg now) served
+  pub makes : made' ≡ made_after made msg (serve up msg now) (length sent) served
+
+-- a restart ended so: with the server's new store the simulation is what that makes of it
+pub record IsRestart {X : Type 0} (seen : X → Contents) (images : X → Image → Type 0) (faults : X → ℕ) (old new : SimulationV X) (server : ℕ) (ended : Restarted) : Type 0 where
+  pub was : Store X
+  pub is : slice_get old.stores server ≡ Some was
+  pub down : was.up ≡ None
+  pub store : Store X
+  pub made : List Made
+  pub leaves : RestartsOn seen images faults was store old.moment old.made made ended
+  pub after : new ≡ restarted_by old server store made
 
 -- a message was sent, where there was memory: it stands at the end, and waits there for its server
 pub record IsSend (result : Result ℕ AllocError) (sent sent' : List Msg) (waiting waiting' : set.FinSet waiting_cmp) (msg : Msg) : Type 0 where
@@ -97,8 +119,3 @@ pub record IsSend (result : Result ℕ AllocError) (sent sent' : List Msg) (wait
   pub stands : OnOk result (sent' ≡ sent ++ msg ∷ [])
   pub waits : OnOk result (waiting' ≡ awaiting waiting (server_for (Some msg)) (length sent))
   pub err : OnErr result (sent' ≡ sent)
-
--- the places of the messages that answered a call, once the message at this place was taken
-abbrev pub noting : set.FinSet nat_cmp → Taken → ℕ → set.FinSet nat_cmp
-noting places (Answer reply) place = set.insert places place
-noting places taken place = places

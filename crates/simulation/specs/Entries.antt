@@ -1,6 +1,6 @@
 -- The entries that a server makes, as the program keeps them.
 use Rattle.std.specs.Prelude.{ℕ, List, [], ◌∷◌, ◌++◌, Option, Some, None}
-use Rattle.std.specs.List.{filter_map}
+use Rattle.std.specs.List.{filter_map, slice_get}
 use Rattle.mds_base.specs.declared.ask.Ask.{Ask}
 use Rattle.mds_base.specs.declared.call.Call.{Call}
 use Rattle.mds_base.specs.declared.call.Call.TheVariants.{Lookup}
@@ -29,10 +29,18 @@ abbrev pub looked : Ask → Call → Reply → ℕ → Option Made
 looked ask (Lookup dir name) reply place = Some (record { entry = record { client = ask.client; seq = ask.seq; call = ask.call; reply = reply }; kind = kinds.Lookup place })
 looked ask call reply place = None
 
+-- the message of a list of one
+abbrev pub only_of : List Msg → Option Msg
+only_of (msg ∷ []) = Some msg
+only_of msgs = None
+
 -- that of a request that was answered by one message
+abbrev pub looked_one : Ask → Option Msg → ℕ → Option Made
+looked_one ask (Some (Answer client seq attempt reply)) place = looked ask ask.call reply place
+looked_one ask msg place = None
+
 abbrev pub looked_by : Ask → List Msg → ℕ → Option Made
-looked_by ask (Answer client seq attempt reply ∷ []) place = looked ask ask.call reply place
-looked_by ask outputs place = None
+looked_by ask outputs place = looked_one ask (only_of outputs) place
 
 abbrev pub looked_in : Option Ask → List Msg → ℕ → Option Made
 looked_in None outputs place = None
@@ -47,6 +55,9 @@ with_one xs None = xs
 with_one xs (Some x) = xs ++ x ∷ []
 
 -- how a Serve ended that was done, by what it sends from this place on
+abbrev pub ended_first : Option Msg → ℕ → Served
+ended_first None place = serves.Silent
+ended_first (Some msg) place = serves.Answered place
+
 abbrev pub ended_by : List Msg → ℕ → Served
-ended_by [] place = serves.Silent
-ended_by (msg ∷ msgs) place = serves.Answered place
+ended_by outputs place = ended_first (slice_get outputs 0) place

@@ -2,6 +2,7 @@ pub mod Calls
 pub mod Entries
 pub mod Fuses
 pub mod Licences
+pub mod Moves
 pub mod Openings
 pub mod Places
 pub mod Ranges

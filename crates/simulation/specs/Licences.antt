@@ -37,7 +37,16 @@ none_at s = 0
 abbrev pub once_at : ℕ → ℕ → ℕ
 once_at server s = if s == server then 1 else 0
 
--- the stops of a Serve and of a restart
+-- how many stops a Serve and a restart tell of
+abbrev pub stops_in_serve : Result Served AllocError → ℕ
+stops_in_serve (Ok serves.Stopped) = 1
+stops_in_serve result = 0
+
+abbrev pub stops_in_restart : Result Restarted StoreFault → ℕ
+stops_in_restart (Ok restarts.Stopped) = 1
+stops_in_restart result = 0
+
+-- of each server
 abbrev pub stops_of_serve : Result Served AllocError → ℕ → ℕ → ℕ
 stops_of_serve (Ok serves.Stopped) server = once_at server
 stops_of_serve result server = none_at

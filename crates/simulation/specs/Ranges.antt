@@ -1,6 +1,6 @@
 -- What holds of a simulation's numbers, so that its calls may be made.
 use Rattle.std.specs.Prelude.{◌≡◌, ℕ, ◌+◌, ◌<◌, ◌≤◌, List, length, Option, Some, None, MatchOption}
-use Rattle.mds_base.specs.declared.limits.TheConstants.{EVENTS, MOMENTS}
+use Rattle.mds_base.specs.declared.limits.TheConstants.{EVENTS}
 use Rattle.mds_base.specs.declared.setup.Setup.{Setup}
 use Rattle.records.specs.declared.msg.Msg.{Msg}
 use Rattle.records.specs.Messages.{server_of_msg}
@@ -9,7 +9,8 @@ use Rattle.client_core.specs.Clients.{ClientV}
 use Rattle.node_store.specs.Serve.{IsMessage, IsWellMade}
 use Rattle.node_store.specs.Store.{Store}
 use Rattle.mds_base.specs.Lists.{Each}
-use Rattle.mds_base.specs.Setups.{IsSetup}
+use Rattle.world.specs.Ranges.{AreRanges}
+use Rattle.simulation.specs.Shows.{SimulationV}
 
 -- an open call is numbered and well made, and its attempts are no more than the events
 pub record IsOpenCall (count seq : ℕ) (pending : Pending) : Type 0 where
@@ -32,13 +33,17 @@ pub record IsSent (servers : ℕ) (msg : Msg) : Type 0 where
   pub there : MatchOption (server_of_msg msg) (Unit {0}) (λ server. server < servers)
   pub made : IsMessage msg
 
+-- each server on its disk has its place for number, and the setup of all
+pub record AreStores {X : Type 0} (setup : Setup) (stores : List (Store X)) : Type 0 where
+  pub all : length stores ≡ setup.servers
+  pub each : Each stores (λ s store. (store.server ≡ s) × (store.setup ≡ setup))
+
 -- the parts that calls of a simulation read are within their ranges
-pub record AreRanges {X : Type 0} (setup : Setup) (now count : ℕ) (stores : List (Store X)) (clients : List ClientV) (sent : List Msg) : Type 0 where
-  pub setup' : IsSetup setup
-  pub moment : now < MOMENTS
+pub record IsRanged {X : Type 0} (setup : Setup) (now count : ℕ) (stores : List (Store X)) (clients : List ClientV) (sent : List Msg) : Type 0 where
+  pub ranges : AreRanges setup now (IsSeat setup count) clients (IsSent setup.servers) sent
+  pub all : length clients ≡ setup.clients
   pub events : count ≤ EVENTS
-  pub stores' : length stores ≡ setup.servers
-  pub numbers : Each stores (λ s store. (store.server ≡ s) × (store.setup ≡ setup))
-  pub clients' : length clients ≡ setup.clients
-  pub seats : Each clients (IsSeat setup count)
-  pub sent' : Each sent (λ k msg. IsSent setup.servers msg)
+  pub stores' : AreStores setup stores
+
+abbrev pub InRange : {X : Type 0} → SimulationV X → Type 0
+InRange sim = IsRanged sim.setup sim.moment sim.count sim.stores sim.clients sim.sent

@@ -6,8 +6,9 @@ ghost use Rattle.mds_base.specs.declared.limits.TheConstants.{EVENTS};
 ghost use Rattle.node_store.specs.Serve.{IsWellMade};
 ghost use Rattle.world.specs.declared.event.Event.TheVariants as Event;
 ghost use Rattle.world.specs.Events.{is_call, is_for_client};
-ghost use Rattle.simulation.specs.Calls.{IsRequestAt, IsSend, noting, taken_of};
+ghost use Rattle.simulation.specs.Calls.{IsRequestAt, IsSend, taken_of};
 ghost use Rattle.simulation.specs.Fuses.{seen_by, images_by};
+ghost use Rattle.simulation.specs.Moves.{issued_by, noting, resent_by, taken_by};
 ghost use Rattle.simulation.specs.Shows.{Happens, StaysNear, client_at, is_idle, is_busy, server_for, waiting_cmp};
 
 use crate::places::Places;
@@ -29,6 +30,7 @@ impl<D: Disk> Simulation<D> {
         requires served { is_call call ≡ true }
         ensures place { IfOk result (λ place. (place ≡ length self.old.sent) × (length self.new.sent ≡ place + 1)) }
         ensures request { IfOk result (λ place. IsRequestAt self.new client place) }
+        ensures after { OnOk result (self.new ≡ issued_by self.old client call) }
         ensures ok { OnOk result (Happens (seen_by D.seen) (images_by D.images) self.old self.new (Event.Issue client call)) }
         ensures err { OnErr result (StaysNear (seen_by D.seen) (images_by D.images) self.old self.new) }
         ensures setup { self.new.setup ≡ self.old.setup }
@@ -46,6 +48,7 @@ impl<D: Disk> Simulation<D> {
         requires busy { is_busy (client_at self.old.clients client) ≡ true }
         ensures place { IfOk result (λ place. (place ≡ length self.old.sent) × (length self.new.sent ≡ place + 1)) }
         ensures request { IfOk result (λ place. IsRequestAt self.new client place) }
+        ensures after { OnOk result (self.new ≡ resent_by self.old client) }
         ensures ok { OnOk result (Happens (seen_by D.seen) (images_by D.images) self.old self.new (Event.Resend client)) }
         ensures err { OnErr result (StaysNear (seen_by D.seen) (images_by D.images) self.old self.new) }
         ensures setup { self.new.setup ≡ self.old.setup }
@@ -62,6 +65,7 @@ impl<D: Disk> Simulation<D> {
         requires client { (1 ≤ client) × (client ≤ self.old.setup.clients) }
         requires message { is_for_client client (slice_get self.old.sent place) ≡ true }
         ensures taken { IfOk result (λ taken. taken_of (client_at self.old.clients client) (slice_get self.old.sent place) ≡ Some taken) }
+        ensures after { OnOk result (self.new ≡ taken_by self.old client place) }
         ensures ok { OnOk result (Happens (seen_by D.seen) (images_by D.images) self.old self.new (Event.Take client place)) }
         ensures sent { self.new.sent ≡ self.old.sent }
         ensures err { OnErr result (StaysNear (seen_by D.seen) (images_by D.images) self.old self.new) }
@@ -69,7 +73,9 @@ impl<D: Disk> Simulation<D> {
         ensures stores { self.new.stores ≡ self.old.stores }
     {
         self.count += 1;
-        let msg = &self.sent.messages()[place as usize];
+        let Some(msg) = self.sent.get(place as usize) else {
+            unreachable!();
+        };
         let taken = self.clients[client as usize - 1].take(alloc, msg)?;
         note_taken(&mut self.taken, &taken, place)?;
         Ok(taken)
@@ -80,7 +86,7 @@ impl<D: Disk> Simulation<D> {
 fn send(sent: &mut MsgList, waiting: &mut BTreeSet<(u32, u64)>, msg: Msg) -> Result<u64, AllocError>
     ensures { IsSend result sent.old sent.new (set.from_list waiting.old.keys) (set.from_list waiting.new.keys) msg }
 {
-    let place = sent.messages().len() as u64;
+    let place = sent.len() as u64;
     await_server(waiting, &msg, place)?;
     sent.push(msg)?;
     Ok(place)

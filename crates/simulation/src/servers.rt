@@ -1,25 +1,26 @@
 //! The events of a server.
-ghost use Rattle.std.specs.Prelude.{◌≡◌, ◌≢◌, ◌++◌, ◌∷◌, [], ℕ, ◌+◌, ◌<◌, true, length, Ok, Some, None, IfOk, IfErr, OnOk, OnErr, IsErrOf};
+ghost use Rattle.std.specs.Prelude.{◌≡◌, ◌≢◌, ◌++◌, ℕ, ◌<◌, true, is_some, length, Ok, Some, None, IfOk, IfErr, OnOk, OnErr, option_copied};
 ghost use Rattle.mds_base.specs.declared.store_fault.StoreFault.TheVariants as StoreFault;
 ghost use Rattle.std.specs.FinSet as set;
 ghost use Rattle.std.specs.List.{slice_get};
 ghost use Rattle.mds_base.specs.declared.limits.TheConstants.{EVENTS, MOMENTS};
-ghost use Rattle.mds_out.specs.Fault.{Rose};
-ghost use Rattle.mds_out.specs.Fused.{fused_faults, OutlastsBy, FailsBy};
-ghost use Rattle.node_core.specs.Nodes.{StoreV};
-ghost use Rattle.node_store.specs.Reading.{IsRefusal};
-ghost use Rattle.node_store.specs.Store.{IsDownAt};
+ghost use Rattle.mds_out.specs.Fused.{Fused, fused_faults, OutlastsBy, FailsBy};
+ghost use Rattle.node_core.specs.Nodes.{StoreV, has_numbers};
+ghost use Rattle.node_core.specs.Serving.{serve};
+ghost use Rattle.node_store.specs.Serve.{IsMessage};
+ghost use Rattle.node_store.specs.Store.{Store, IsDownAt};
 ghost use Rattle.records.specs.declared.msg.Msg.{Msg};
 ghost use Rattle.world.specs.declared.event.Event.TheVariants as Event;
 ghost use Rattle.world.specs.declared.event.StopCause.TheVariants as StopCause;
-ghost use Rattle.simulation.specs.Calls.{CanServe, CanMiss, Serves, Restarts, RoseAt, OthersStay, faults_at};
-ghost use Rattle.simulation.specs.Entries.{change_of, changes_of, looked, lookup_of, with_one, ended_by};
+ghost use Rattle.simulation.specs.Calls.{CanServe, CanMiss, Serves, ServesOn, IsServe, OthersStay, Restarts, IsRestart};
+ghost use Rattle.simulation.specs.Entries.{change_of, changes_of, looked, lookup_of, only_of, with_one, ended_by};
 ghost use Rattle.simulation.specs.Fuses.{seen_by, images_by};
-ghost use Rattle.simulation.specs.Licences.{AreLicensed, none_at, stops_of_serve, stops_of_restart};
+ghost use Rattle.simulation.specs.Licences.{IsLicensed, AreLicensed, none_at, stops_in_serve, stops_of_serve, stops_of_restart};
+ghost use Rattle.simulation.specs.Moves.{counted, halt, halted_by};
 ghost use Rattle.simulation.specs.Runs.{RunV};
 ghost use Rattle.simulation.specs.Shows.{Happens, Shows, StaysNear, server_for, waiting_cmp};
 ghost use Rattle.simulation.specs.Shows as shown;
-ghost use Rattle.simulation.specs.Stores.{IsRevived, IsDownStill};
+ghost use Rattle.simulation.specs.Stores.{NearServed, NearRestarted, RestartsOn};
 
 use crate::made::{Kind, Made};
 use crate::simulation::Simulation;
@@ -58,39 +59,27 @@ impl<D: Disk> Simulation<D> {
     pub fn serve(&mut self, alloc: Global, place: u64) -> Result<Served, AllocError>
         requires room { self.old.count < EVENTS }
         requires message { CanServe self.old place }
+        ensures after { IfOk result (λ served. (server : ℕ) → server_for (slice_get self.old.sent place) ≡ Some server → IsServe (seen_by D.seen) (images_by D.images) (fused_faults D.faults) self.old self.new server place served) }
         ensures ok { IfOk result (λ served. (server : ℕ) → server_for (slice_get self.old.sent place) ≡ Some server → Serves (seen_by D.seen) (images_by D.images) self.old self.new server place served) }
         ensures err { OnErr result (StaysNear (seen_by D.seen) (images_by D.images) self.old self.new) }
-        ensures rose { (server : ℕ) → server_for (slice_get self.old.sent place) ≡ Some server → result ≡ Ok Served.Stopped → RoseAt (fused_faults D.faults) self.old self.new server }
-        ensures kept { (server : ℕ) → server_for (slice_get self.old.sent place) ≡ Some server → IfOk result (λ served. (served ≡ Served.Stopped → ⊥) → faults_at (fused_faults D.faults) self.new server ≡ faults_at (fused_faults D.faults) self.old server) }
+        ensures others { OnErr result ((server : ℕ) → server_for (slice_get self.old.sent place) ≡ Some server → OthersStay self.old self.new server) }
         ensures licensed { (server : ℕ) → server_for (slice_get self.old.sent place) ≡ Some server → AreLicensed D.faults self.old.stores self.new.stores (stops_of_serve result server) none_at }
-        ensures others { (server : ℕ) → server_for (slice_get self.old.sent place) ≡ Some server → OthersStay self.old self.new server }
         ensures setup { self.new.setup ≡ self.old.setup }
     {
         let Some(server) = self.server_for(place) else {
             unreachable!();
         };
-        match self.stores[server as usize].serve_batch(
+        let served = serve_on(
             alloc,
-            &self.sent,
-            &[place],
+            &mut self.stores[server as usize],
+            &mut self.sent,
+            &mut self.made,
+            place,
             self.moment,
-            0,
-        ) {
-            Ok(handled) => {
-                let served = hand_out(alloc, &mut self.sent, &mut self.made, place, handled)?;
-                no_longer_waits(&mut self.waiting, server, place);
-                self.count += 1;
-                Ok(served)
-            }
-            Err(fault) => match fault {
-                StoreFault::Device => {
-                    no_longer_waits(&mut self.waiting, server, place);
-                    self.count += 1;
-                    Ok(Served::Stopped)
-                }
-                _ => Err(AllocError),
-            },
-        }
+        )?;
+        no_longer_waits(&mut self.waiting, server, place);
+        self.count += 1;
+        Ok(served)
     }
 
     /// A message meets a server that is down.
@@ -98,7 +87,7 @@ impl<D: Disk> Simulation<D> {
         requires room { self.old.count < EVENTS }
         requires message { CanMiss self.old place }
         ensures happens { Happens (seen_by D.seen) (images_by D.images) self.old self.new (Event.Miss place) }
-        ensures after { self.new ≡ record self.old { count = self.old.count + 1 } }
+        ensures after { self.new ≡ counted self.old }
     {
         let _ = place;
         self.count += 1;
@@ -108,11 +97,9 @@ impl<D: Disk> Simulation<D> {
     pub fn stop(&mut self, server: u32)
         requires room { self.old.count < EVENTS }
         requires up { (server < self.old.setup.servers) × (shown.is_up self.old server ≡ true) }
+        ensures after { (store : Store (Fused D)) → slice_get self.old.stores server ≡ Some store → self.new ≡ halted_by self.old server (halt store) }
         ensures happens { Happens (seen_by D.seen) (images_by D.images) self.old self.new (Event.Stop server StopCause.Asked) }
-        ensures faults { faults_at (fused_faults D.faults) self.new server ≡ faults_at (fused_faults D.faults) self.old server }
         ensures licensed { AreLicensed D.faults self.old.stores self.new.stores none_at none_at }
-        ensures others { OthersStay self.old self.new server }
-        ensures sent { self.new.sent ≡ self.old.sent }
         ensures setup { self.new.setup ≡ self.old.setup }
     {
         self.stores[server as usize].halt();
@@ -123,35 +110,22 @@ impl<D: Disk> Simulation<D> {
     pub fn restart(&mut self, alloc: Global, server: u32) -> Result<Restarted, StoreFault>
         requires room { self.old.count < EVENTS }
         requires down { (server < self.old.setup.servers) × (shown.is_up self.old server ≢ true) }
+        ensures after { IfOk result (IsRestart (seen_by D.seen) (images_by D.images) (fused_faults D.faults) self.old self.new server) }
         ensures ok { IfOk result (λ restarted. Restarts (seen_by D.seen) (images_by D.images) self.old self.new server restarted) }
         ensures err { OnErr result (StaysNear (seen_by D.seen) (images_by D.images) self.old self.new) }
-        ensures rose { result ≡ Ok Restarted.Stopped → RoseAt (fused_faults D.faults) self.old self.new server }
-        ensures kept { result ≡ Ok Restarted.Up → faults_at (fused_faults D.faults) self.new server ≡ faults_at (fused_faults D.faults) self.old server }
+        ensures others { OnErr result (OthersStay self.old self.new server) }
 
         // Where a run is shown, it is refused for want of memory alone.
         ensures fault { IfErr result (λ fault. (run : RunV) → Shows (seen_by D.seen) (images_by D.images) self.old run → fault ≡ StoreFault.OutOfMemory) }
         ensures licensed { AreLicensed D.faults self.old.stores self.new.stores (stops_of_restart result server) none_at }
-        ensures others { OthersStay self.old self.new server }
         ensures sent { self.new.sent ≡ self.old.sent }
         ensures setup { self.new.setup ≡ self.old.setup }
     {
-        let moment = self.moment;
         let store = &mut self.stores[server as usize];
         store.mend();
-        match revive(alloc, store, moment) {
-            Ok(mut kept) => {
-                self.made.append(&mut kept)?;
-                self.count += 1;
-                Ok(Restarted::Up)
-            }
-            Err(fault) => match fault {
-                StoreFault::Device => {
-                    self.count += 1;
-                    Ok(Restarted::Stopped)
-                }
-                fault => Err(fault),
-            },
-        }
+        let restarted = revive(alloc, store, &mut self.made, self.moment)?;
+        self.count += 1;
+        Ok(restarted)
     }
 }
 
@@ -162,34 +136,64 @@ fn no_longer_waits(waiting: &mut BTreeSet<(u32, u64)>, server: u32, place: u64)
     let _ = waiting.remove(&(server, place));
 }
 
-// Restarts a server, the fuse of whose disk is not armed, and answers the entries of the records that were kept.
+// Has a server serve the message at a place, sends what it hands out, and makes its entries.
+fn serve_on<D: Disk>(
+    alloc: Global,
+    store: &mut NodeStore<Fuse<D>>,
+    sent: &mut MsgList,
+    made: &mut Vec<Made>,
+    place: u64,
+    moment: u64,
+) -> Result<Served, AllocError>
+    requires up { (up : StoreV) × (store.old.up ≡ Some up) × (has_numbers up.node ≡ true) }
+    requires one { (msg : Msg) × (slice_get sent.old place ≡ Some msg) × IsMessage msg }
+    requires moment { moment < MOMENTS }
+    ensures ok { (up : StoreV) → (msg : Msg) → store.old.up ≡ Some up → slice_get sent.old place ≡ Some msg → IfOk result (ServesOn (seen_by D.seen) (images_by D.images) (fused_faults D.faults) store.old store.new up msg moment sent.old sent.new made.old.items made.new.items) }
+    ensures err { (up : StoreV) → (msg : Msg) → store.old.up ≡ Some up → slice_get sent.old place ≡ Some msg → OnErr result (NearServed (seen_by D.seen) (images_by D.images) store.old store.new up (serve up msg moment)) }
+    ensures unsent { OnErr result (sent.new ≡ sent.old) }
+    ensures licensed { IsLicensed D.faults (Some store.old) (Some store.new) (stops_in_serve result) 0 }
+    ensures same { (store.new.server ≡ store.old.server) × (store.new.setup ≡ store.old.setup) }
+{
+    match store.serve_batch(alloc, sent, &[place], moment, 0) {
+        Ok(handled) => hand_out(alloc, sent, made, place, handled),
+        Err(fault) => match fault {
+            StoreFault::Device => Ok(Served::Stopped),
+            _ => Err(AllocError),
+        },
+    }
+}
+
+// Restarts a server, the fuse of whose disk is not armed, and makes the entries of the records that were kept.
 fn revive<D: Disk>(
     alloc: Global,
     store: &mut NodeStore<Fuse<D>>,
+    made: &mut Vec<Made>,
     moment: u64,
-) -> Result<Vec<Made>, StoreFault>
+) -> Result<Restarted, StoreFault>
     requires unarmed { store.old.disk.left ≡ None }
     requires down { store.old.up ≡ None }
     requires moment { moment < MOMENTS }
-    ensures ok { IfOk result (λ made. IsRevived (seen_by D.seen) (images_by D.images) store.old store.new moment made.items) }
-    ensures err { OnErr result (IsDownStill (seen_by D.seen) (images_by D.images) store.old store.new) }
-    ensures sound { IfErr result (λ fault. (owed : StoreV) → IsDownAt (seen_by D.seen) (images_by D.images) store.old owed → IsRefusal (λ _ _ _. ⊥) (D.seen store.new.disk.inner 1) fault) }
+    ensures ok { IfOk result (RestartsOn (seen_by D.seen) (images_by D.images) (fused_faults D.faults) store.old store.new moment made.old.items made.new.items) }
+    ensures err { OnErr result (NearRestarted (seen_by D.seen) (images_by D.images) store.old store.new moment) }
+    ensures sound { IfErr result (λ fault. is_some (D.seen store.old.disk.inner 1) ≡ true → (owed : StoreV) → IsDownAt (seen_by D.seen) (images_by D.images) store.old owed → fault ≡ StoreFault.OutOfMemory) }
     ensures same { (store.new.server ≡ store.old.server) × (store.new.setup ≡ store.old.setup) }
-    ensures rose { IsErrOf result StoreFault.Device → Rose (fused_faults D.faults store.old.disk) (fused_faults D.faults store.new.disk) }
-    ensures kept { OnOk result (fused_faults D.faults store.new.disk ≡ fused_faults D.faults store.old.disk) }
-    ensures down { OnErr result (store.new.up ≡ None) }
+    ensures down { result ≡ Ok Restarted.Stopped → store.new.up ≡ None }
     ensures lasts { OutlastsBy D.lasts D.faults store.old.disk store.new.disk }
-    ensures failed { IsErrOf result StoreFault.Device → FailsBy D.fails D.faults store.old.disk store.new.disk }
+    ensures failed { result ≡ Ok Restarted.Stopped → FailsBy D.fails D.faults store.old.disk store.new.disk }
 {
-    let made = changes(alloc, store.doubt())?;
+    let mut entries = changes(alloc, store.doubt())?;
     match store.restart(alloc, moment) {
         Ok(kept) => {
             if kept == 0 {
-                return Ok(Vec::new(alloc));
+                return Ok(Restarted::Up);
             }
-            Ok(made)
+            made.append(&mut entries)?;
+            Ok(Restarted::Up)
         }
-        Err(fault) => Err(fault),
+        Err(fault) => match fault {
+            StoreFault::Device => Ok(Restarted::Stopped),
+            fault => Err(fault),
+        },
     }
 }
 
@@ -207,26 +211,28 @@ fn hand_out(
     ensures served { IfOk result (λ served. served ≡ ended_by handled.outputs (length sent.old)) }
     ensures err { OnErr result (sent.new ≡ sent.old) }
 {
-    let first = sent.messages().len() as u64;
+    let first = sent.len() as u64;
     let Handled {
         records,
         mut outputs,
     } = handled;
     add_changes(alloc, made, &records)?;
-    let asked = &sent.messages()[place as usize];
-    add_lookup(alloc, made, asked, outputs.messages(), first)?;
-    let served = ended(outputs.messages(), first);
+    let Some(asked) = sent.get(place as usize) else {
+        unreachable!();
+    };
+    add_lookup(alloc, made, asked, &outputs, first)?;
+    let served = ended(&outputs, first);
     sent.append(&mut outputs)?;
     Ok(served)
 }
 
 // How a Serve ended that was done, by what it sends from a place on.
-fn ended(outputs: &[Msg], first: u64) -> Served
+fn ended(outputs: &MsgList, first: u64) -> Served
     ensures { result ≡ ended_by outputs.now first }
 {
-    match outputs {
-        [] => Served::Silent,
-        _ => Served::Answered { place: first },
+    match outputs.get(0) {
+        None => Served::Silent,
+        Some(_) => Served::Answered { place: first },
     }
 }
 
@@ -281,17 +287,27 @@ fn add_lookup(
     alloc: Global,
     made: &mut Vec<Made>,
     msg: &Msg,
-    outputs: &[Msg],
+    outputs: &MsgList,
     place: u64,
 ) -> Result<(), AllocError>
     ensures { OnOk result (made.new.items ≡ with_one made.old.items (lookup_of msg.now outputs.now place)) }
 {
-    match (msg, outputs) {
-        (Msg::Request { ask, .. }, [Msg::Answer { reply, .. }]) => add_answered(
+    match (msg, only(outputs)) {
+        (Msg::Request { ask, .. }, Some(Msg::Answer { reply, .. })) => add_answered(
             alloc, made, ask, reply, place,
         ),
         _ => Ok(()),
     }
+}
+
+// The message of a list of one message.
+fn only(messages: &MsgList) -> Option<&Msg>
+    ensures { option_copied result ≡ only_of messages.now }
+{
+    if messages.len() != 1 {
+        return None;
+    }
+    messages.get(0)
 }
 
 // Adds the entry of an ask that got a reply, which stands at a place, where it is a lookup.

@@ -6,21 +6,21 @@ ghost use Rattle.mds_out.specs.Fused.{Fused};
 ghost use Rattle.node_store.specs.Store.{Store};
 ghost use Rattle.world.specs.declared.event.Event.TheVariants as Event;
 ghost use Rattle.world.specs.Events.{is_for_client};
-ghost use Rattle.simulation.specs.Calls.{armed};
 ghost use Rattle.simulation.specs.Fuses.{seen_by, images_by};
 ghost use Rattle.simulation.specs.Licences.{AreLicensed, none_at, once_at};
+ghost use Rattle.simulation.specs.Moves.{armed, ticked};
 ghost use Rattle.simulation.specs.Shows.{Happens, ShowsSame, client_at, server_for, stands_in};
 ghost use Rattle.simulation.specs.Shows as shown;
 
 use crate::made::{Kind, Made};
 use crate::places::Places;
-use crate::waiting::{is_to, server_of};
+use crate::waiting::is_to;
 use client_core::Client;
 use mds_base::Setup;
 use mds_base::limits::{SERVE_DIRECTORIES, SERVER_DIRECTORIES};
 use mds_out::{Disk, Fuse};
 use node_store::NodeStore;
-use records::{Msg, MsgList};
+use records::MsgList;
 use std::collections::BTreeSet;
 use std::marker::Model;
 
@@ -54,7 +54,7 @@ impl<D: Disk> Model for Simulation<D> {
     ghost use Rattle.bitmap.specs.Bits.{coded_bits};
     ghost use Rattle.mds_out.specs.Fused.{Fused};
     ghost use Rattle.simulation.specs.Shows.{SimulationV, waiting_cmp};
-    ghost use Rattle.simulation.specs.Ranges.{AreRanges};
+    ghost use Rattle.simulation.specs.Ranges.{IsRanged};
 
     ghost Value = { SimulationV (Fused D) };
 
@@ -72,7 +72,7 @@ impl<D: Disk> Model for Simulation<D> {
       taken = a.taken;
     } };
 
-    ghost invariant = { λ a. AreRanges a.setup a.moment a.count a.stores.items a.clients.items a.sent × (a.back.items ≡ []) × (a.setup.servers ≤ vec_capacity a.back) };
+    ghost invariant = { λ a. IsRanged a.setup a.moment a.count a.stores.items a.clients.items a.sent × (a.back.items ≡ []) × (a.setup.servers ≤ vec_capacity a.back) };
 }
 
 impl<D: Disk> Simulation<D> {
@@ -95,13 +95,6 @@ impl<D: Disk> Simulation<D> {
         ensures { result ≡ self.now.count }
     {
         self.count
-    }
-
-    /// All messages, in the order in which they were sent.
-    pub fn sent(&self) -> &[Msg]
-        ensures { result.now ≡ self.now.sent }
-    {
-        self.sent.messages()
     }
 
     /// A client, by its number from 1.
@@ -138,9 +131,9 @@ impl<D: Disk> Simulation<D> {
         let Ok(at) = usize::try_from(place) else {
             return None;
         };
-        match self.sent.messages().get(at) {
+        match self.sent.get(at) {
             None => None,
-            Some(msg) => server_of(msg),
+            Some(msg) => msg.server(),
         }
     }
 
@@ -151,7 +144,7 @@ impl<D: Disk> Simulation<D> {
         let Ok(at) = usize::try_from(place) else {
             return false;
         };
-        match self.sent.messages().get(at) {
+        match self.sent.get(at) {
             None => false,
             Some(msg) => is_to(msg, client),
         }
@@ -179,7 +172,7 @@ impl<D: Disk> Simulation<D> {
         requires room { self.old.count < EVENTS }
         requires moment { self.old.moment + by < MOMENTS }
         ensures happens { Happens (seen_by D.seen) (images_by D.images) self.old self.new (Event.Tick by) }
-        ensures after { self.new ≡ record self.old { moment = self.old.moment + by; count = self.old.count + 1 } }
+        ensures after { self.new ≡ ticked self.old by }
     {
         self.moment += by;
         self.count += 1;

@@ -2,7 +2,7 @@
 ghost use Rattle.std.specs.Prelude.{◌≡◌, ◌<◌, true, length, OnOk, OnErr, Some};
 ghost use Rattle.std.specs.FinSet as set;
 ghost use Rattle.world.specs.Events.{is_for_client};
-ghost use Rattle.simulation.specs.Calls.{awaiting};
+ghost use Rattle.simulation.specs.Moves.{awaiting};
 ghost use Rattle.simulation.specs.Shows.{IsDue, IsFirst, earlier, is_up, server_for, waiting_cmp};
 
 use crate::simulation::Simulation;
@@ -63,30 +63,13 @@ fn earlier(a: Option<u64>, b: Option<u64>) -> Option<u64>
     }
 }
 
-/// The server of a message, where it is for one.
-pub(crate) fn server_of(msg: &Msg) -> Option<u32>
-    ensures { result ≡ server_for (Some msg.now) }
-{
-    match msg {
-        Msg::Request { server, .. } => Some(*server),
-        Msg::Transfer { server, .. } => Some(*server),
-        Msg::Installed { server, .. } => Some(*server),
-        _ => None,
-    }
-}
-
 /// Whether a message is for a client.
 pub(crate) fn is_to(msg: &Msg, client: u32) -> bool
     ensures { result ≡ is_for_client client (Some msg.now) }
 {
-    match msg {
-        Msg::Redirect { client: to, .. } => *to == client,
-        Msg::Answer { client: to, .. } => *to == client,
-        Msg::Busy { client: to, .. } => *to == client,
-        Msg::Held { client: to, .. } => *to == client,
-        Msg::Page { client: to, .. } => *to == client,
-        Msg::Closed { client: to, .. } => *to == client,
-        _ => false,
+    match msg.client() {
+        None => false,
+        Some(to) => to == client,
     }
 }
 
@@ -99,7 +82,7 @@ pub(crate) fn await_server(
     ensures ok { OnOk result (set.from_list {R = waiting_cmp} waiting.new.keys ≡ awaiting (set.from_list waiting.old.keys) (server_for (Some msg.now)) place) }
     ensures err { OnErr result (set.from_list {R = waiting_cmp} waiting.new.keys ≡ set.from_list {R = waiting_cmp} waiting.old.keys) }
 {
-    if let Some(server) = server_of(msg) {
+    if let Some(server) = msg.server() {
         waiting.insert((server, place))?;
     }
     Ok(())

@@ -4,6 +4,7 @@ use Rattle.std.proofs.lemmas.List.{append-nil, take_all, drop_all, take_min, len
 use Rattle.std.proofs.Math.Seq.{take-add}
 use Rattle.std.proofs.lemmas.Bool.{leb-true, leb-false}
 use Rattle.mds_base.specs.declared.row.Row.{Row}
+use Rattle.split.proofs.Moving.{take_whole}
 use Rattle.split.specs.Pieces.{pieces_in, piece_of, first_pieces, Collected, all_rows}
 
 -- with one piece more
@@ -28,11 +29,8 @@ first_rows rows (suc count) =
     ∙ sym (take-add (64 * count) 64 rows)
     ∙ ap (λ n. take n rows) (let e : 64 * count + 64 ≡ 64 * suc count = omega arith in e)
 
-take_more : (n : ℕ) (rows : List Row) → length rows ≤ n → take n rows ≡ rows
-take_more n rows within = sym (take_min n rows) ∙ ap (λ m. take m rows) (let e : min n (length rows) ≡ length rows = omega (arith, within) in e) ∙ take_all (length rows) rows (omega arith)
-
 pub all_pieces : (rows : List Row) → first_pieces rows (pieces_in rows) ≡ rows
-all_pieces rows = first_rows rows (pieces_in rows) ∙ take_more (64 * pieces_in rows) rows (omega arith)
+all_pieces rows = first_rows rows (pieces_in rows) ∙ take_whole (64 * pieces_in rows) rows (omega arith)
 
 none_left : (n : ℕ) (rows : List Row) → length rows ≤ n → take 64 (drop n rows) ≡ []
 none_left n rows past = ap (take 64) (drop_all n rows past)

@@ -7,7 +7,7 @@ use Rattle.std.specs.Cmp.{Equal-is}
 use Rattle.std.specs.List.{AllByRecursion, filter, list_any}
 use Rattle.std.specs.FinMap as map
 use Rattle.std.specs.FinMap.Entries.{below_all}
-use Rattle.std.proofs.lemmas.Bool.{eq-eqb, eqb-true, le-leb, lt-ltb, leb-true, false≢true}
+use Rattle.std.proofs.lemmas.Bool.{and_parts, and_from, eq-eqb, eqb-true, le-leb, lt-ltb, leb-true, false≢true}
 use Rattle.std.proofs.lemmas.Cmp.{tied_itself}
 use Rattle.std.proofs.lemmas.Bool.Decides.{nat_tests}
 use Rattle.std.proofs.lemmas.Nat.{mod-pow-add}
@@ -22,20 +22,10 @@ use Rattle.mds_base.proofs.RowMaps.{row_keys_total, exact_row_keys, same_rows, k
 use Rattle.name_hash.specs.NameHash.{hash_of}
 use Rattle.name_hash.specs.ScanOrder.{place_of}
 use Rattle.split.proofs.Moving.{child_low}
-use Rattle.split.specs.Halves.{is_moving, is_behind, key_at, rising, before_all, upper_rows, half_of, without_rows, IsKeyed, is_half_key}
+use Rattle.split.specs.Halves.{is_moving, is_behind, rising, before_all, upper_rows, half_of, without_rows, IsKeyed, is_half_key}
+use Rattle.name_hash.specs.RowPlace.{row_key}
 
 -- ---- a name of the partition moves exactly where its hash has the bit set
-
-and_left : (a b : Bool) → a && b ≡ true → a ≡ true
-and_left true b is = refl
-and_left false b is = is
-
-and_right : (a b : Bool) → a && b ≡ true → b ≡ true
-and_right true b is = is
-and_right false b is = let never : false ≡ true = is in cc
-
-both_true : (a b : Bool) → a ≡ true → b ≡ true → a && b ≡ true
-both_true a b first second = ap (λ x. x && b) first ∙ second
 
 moves_one : (n p b r : ℕ) → r ≡ b * n + p → b ≡ 1 → (r == (p + n)) ≡ true
 moves_one n p b r is one = eq-eqb r (p + n) (omega (arith, is, ap (λ b. b * n) one))
@@ -80,8 +70,8 @@ span_is part depth key deep low at =
     ap (λ b. b && nat_le key.rev (last_of 64 child (suc depth))) (past_first (first_of 64 child) key)
     ∙ ap (λ r. nat_le (first_of 64 child) r && nat_le r (last_of 64 child (suc depth))) at
     ∙ same_bool _ _
-    (λ within. eq-eqb _ _ (interval.1 (record { from = leb-true _ _ (and_left _ _ within); to = leb-true _ _ (and_right _ _ within) })))
-    (λ moves. let inside = interval.0 (eqb-true _ _ moves) in both_true _ _ (le-leb _ _ inside.from) (le-leb _ _ inside.to))
+    (λ within. eq-eqb _ _ (interval.1 (record { from = leb-true _ _ (and_parts _ _ within).0; to = leb-true _ _ (and_parts _ _ within).1 })))
+    (λ moves. let inside = interval.0 (eqb-true _ _ moves) in and_from _ _ (le-leb _ _ inside.from) (le-leb _ _ inside.to))
 
 -- a row at the key of its name is in the page of the upper half exactly where its name moves
 page_is : (dir part depth : ℕ) (key : RowKey) → depth < 64 → part < 2 ^ depth → (key.dir ≡ dir → key.part ≡ part → key.rev ≡ place_of key.name)
@@ -129,7 +119,7 @@ Follows None es = Unit {0}
 Follows (Some before) es = T (below_all row_key_cmp before es)
 
 abbrev IsOfHalf : ℕ → ℕ → ℕ → RowKey × Attr → Type 0
-IsOfHalf dir part depth e = (e.0 ≡ key_at dir part e.0.name) × (is_moving part depth e.0.name ≡ true)
+IsOfHalf dir part depth e = (e.0 ≡ row_key dir part e.0.name) × (is_moving part depth e.0.name ≡ true)
 
 first_part : (a b : Bool) → T (a && b) → T a
 first_part true b p = tt
@@ -152,9 +142,9 @@ rising_all : (dir part depth : ℕ) (before : Option RowKey) (es : List (RowKey 
 rising_all dir part depth before [] all sorted follows = refl
 rising_all dir part depth before (e ∷ es) all sorted follows =
     let at = all.0.0 in
-    let behind : is_behind before (key_at dir part e.0.name) ≡ true = ap (is_behind before) (sym at) ∙ first_behind before e es follows in
-    let taken : (is_moving part depth e.0.name && is_behind before (key_at dir part e.0.name)) ≡ true = both_true _ _ all.0.1 behind in
-    let key = key_at dir part e.0.name in
+    let behind : is_behind before (row_key dir part e.0.name) ≡ true = ap (is_behind before) (sym at) ∙ first_behind before e es follows in
+    let taken : (is_moving part depth e.0.name && is_behind before (row_key dir part e.0.name)) ≡ true = and_from _ _ all.0.1 behind in
+    let key = row_key dir part e.0.name in
     ap (λ b. cond b ((key, e.1) ∷ rising dir part depth (Some key) (map row_of es)) (rising dir part depth before (map row_of es))) taken
     ∙ ap (λ k. (k, e.1) ∷ rising dir part depth (Some k) (map row_of es)) (sym at)
     ∙ ap (λ l. e ∷ l) (rising_all dir part depth (Some e.0) es all.1 (second_part _ _ sorted) (first_part _ _ sorted))
@@ -172,10 +162,10 @@ each_there (e ∷ es) =
 
 half_entry : (dir part depth : ℕ) (e : RowKey × Attr) → is_half_key dir part depth e.0 ≡ true → (e.0.dir ≡ dir → e.0.part ≡ part → e.0.rev ≡ place_of e.0.name) → IsOfHalf dir part depth e
 half_entry dir part depth e is keyed =
-    let here = and_left _ _ is in
-    let dirs = eqb-true e.0.dir dir (and_left _ _ here) in
-    let parts = eqb-true e.0.part part (and_right _ _ here) in
-    ((λ i. record { dir = dirs i; part = parts i; rev = keyed dirs parts i; name = e.0.name }), and_right _ _ is)
+    let here = (and_parts _ _ is).0 in
+    let dirs = eqb-true e.0.dir dir (and_parts _ _ here).0 in
+    let parts = eqb-true e.0.part part (and_parts _ _ here).1 in
+    ((λ i. record { dir = dirs i; part = parts i; rev = keyed dirs parts i; name = e.0.name }), (and_parts _ _ is).1)
 
 of_half : (rows : RowMap) (dir part depth : ℕ) → IsKeyed rows dir part → AllByRecursion (IsOfHalf dir part depth) (map.entries (map.retain_keys rows (is_half_key dir part depth)))
 of_half rows dir part depth keyed =

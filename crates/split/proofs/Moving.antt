@@ -9,10 +9,11 @@ use Rattle.mds_base.specs.RowKeys.{row_of}
 use Rattle.mds_base.specs.declared.attr.Attr.{Attr}
 use Rattle.mds_base.specs.declared.row.Row.{Row}
 use Rattle.mds_base.specs.declared.row_key.RowKey.{RowKey}
-use Rattle.split.specs.Halves.{is_moving, is_behind, last_key, key_at, rising, with_rising}
+use Rattle.split.specs.Halves.{is_moving, is_behind, last_key, rising, with_rising}
+use Rattle.name_hash.specs.RowPlace.{row_key}
 
 abbrev takes : ℕ → ℕ → ℕ → Option RowKey → Row → Bool
-takes dir part depth before row = is_moving part depth row.name && is_behind before (key_at dir part row.name)
+takes dir part depth before row = is_moving part depth row.name && is_behind before (row_key dir part row.name)
 
 last_push : (half : List (RowKey × Attr)) (e : RowKey × Attr) → last_key (half ++ e ∷ []) ≡ Some e.0
 last_push [] e = refl
@@ -23,7 +24,7 @@ last_push (first ∷ second ∷ half) e = last_push (second ∷ half) e
 pub rising_more : (dir part depth : ℕ) (half : List (RowKey × Attr)) (row : Row) (rows : List Row)
     → with_rising dir part depth half row ++ rising dir part depth (last_key (with_rising dir part depth half row)) rows ≡ half ++ rising dir part depth (last_key half) (row ∷ rows)
 rising_more dir part depth half row rows =
-    let e : RowKey × Attr = (key_at dir part row.name, row.attr) in
+    let e : RowKey × Attr = (row_key dir part row.name, row.attr) in
     elim (takes dir part depth (last_key half) row) as (λ b. cond b (half ++ e ∷ []) half ++ rising dir part depth (last_key (cond b (half ++ e ∷ []) half)) rows
     ≡ half ++ cond b (e ∷ rising dir part depth (Some e.0) rows) (rising dir part depth (last_key half) rows)) [
       | true ↦ ap (λ before. (half ++ e ∷ []) ++ rising dir part depth before rows) (last_push half e) ∙ append_assoc half (e ∷ []) (rising dir part depth (Some e.0) rows)
@@ -34,7 +35,7 @@ rising_more dir part depth half row rows =
 pub rising_length : (dir part depth : ℕ) (before : Option RowKey) (rows : List Row) → length (rising dir part depth before rows) ≤ length rows
 rising_length dir part depth before [] = omega arith
 rising_length dir part depth before (row ∷ rows) =
-    let e : RowKey × Attr = (key_at dir part row.name, row.attr) in
+    let e : RowKey × Attr = (row_key dir part row.name, row.attr) in
     elim (takes dir part depth before row) as (λ b. length (cond b (e ∷ rising dir part depth (Some e.0) rows) (rising dir part depth before rows)) ≤ suc (length rows)) [
       | true ↦ omega (arith, rising_length dir part depth (Some e.0) rows)
       | false ↦ omega (arith, rising_length dir part depth before rows)
@@ -77,7 +78,7 @@ last_number first depth deep =
     let same : 2 ^ (63 - depth) ≡ 2 ^ (64 - suc depth) = ap (λ n. 2 ^ n) (let e : 63 - depth ≡ 64 - suc depth = omega arith in e) in
     omega (arith, mod-eq_of_lt fits, same)
 
-take_whole : (n : ℕ) (rows : List Row) → length rows ≤ n → take n rows ≡ rows
+pub take_whole : (n : ℕ) (rows : List Row) → length rows ≤ n → take n rows ≡ rows
 take_whole n rows within = sym (take_min n rows) ∙ ap (λ m. take m rows) (let e : min n (length rows) ≡ length rows = omega (arith, within) in e) ∙ take_all (length rows) rows (omega arith)
 
 -- a page that is not full has all rows

@@ -12,6 +12,7 @@ use Rattle.mds_base.specs.declared.split_state.SplitState.TheVariants.{Quiet, Mo
 use Rattle.mds_base.specs.RowKeys.{RowMap, row_key_cmp, is_in_page, row_of}
 use Rattle.name_hash.specs.NameHash.{hash_of}
 use Rattle.name_hash.specs.ScanOrder.{place_of}
+use Rattle.name_hash.specs.RowPlace.{row_key}
 
 -- a hash lies in the half that moves: a split is under way, and the hash has the bit of its depth set
 abbrev pub is_frozen : SplitState → ℕ → Bool
@@ -21,10 +22,6 @@ is_frozen (Moving depth) hash = (hash / 2 ^ depth) % 2 == 1
 -- a name belongs to the child that the partition makes at this depth
 abbrev pub is_moving : ℕ → ℕ → List ℕ → Bool
 is_moving part depth name = (hash_of name % 2 ^ suc depth) == (part + 2 ^ depth)
-
--- where the row of a name stands in a partition of a directory
-abbrev pub key_at : ℕ → ℕ → List ℕ → RowKey
-key_at dir part name = record { dir = dir; part = part; rev = place_of name; name = name }
 
 -- before all names at this reversed hash
 abbrev pub before_all : ℕ → Cursor
@@ -50,15 +47,15 @@ last_key (entry ∷ next ∷ entries) = last_key (next ∷ entries)
 abbrev pub rising : ℕ → ℕ → ℕ → Option RowKey → List Row → List (RowKey × Attr)
 rising dir part depth before [] = []
 rising dir part depth before (row ∷ rows) =
-    if is_moving part depth row.name && is_behind before (key_at dir part row.name)
-    then (key_at dir part row.name, row.attr) ∷ rising dir part depth (Some (key_at dir part row.name)) rows
+    if is_moving part depth row.name && is_behind before (row_key dir part row.name)
+    then (row_key dir part row.name, row.attr) ∷ rising dir part depth (Some (row_key dir part row.name)) rows
     else rising dir part depth before rows
 
 -- a half with a row more, where the row belongs to it
 abbrev pub with_rising : ℕ → ℕ → ℕ → List (RowKey × Attr) → Row → List (RowKey × Attr)
 with_rising dir part depth half row =
-    if is_moving part depth row.name && is_behind (last_key half) (key_at dir part row.name)
-    then half ++ (key_at dir part row.name, row.attr) ∷ []
+    if is_moving part depth row.name && is_behind (last_key half) (row_key dir part row.name)
+    then half ++ (row_key dir part row.name, row.attr) ∷ []
     else half
 
 -- the moving half
@@ -67,7 +64,7 @@ half_of rows dir part depth = rising dir part depth None (upper_rows rows dir pa
 
 -- the rows with these put into a partition, each at the key of its name
 abbrev pub with_rows : RowMap → ℕ → ℕ → List Row → RowMap
-with_rows rows dir part moved = fold (λ now row. map.insert now (key_at dir part row.name) row.attr) rows moved
+with_rows rows dir part moved = fold (λ now row. map.insert now (row_key dir part row.name) row.attr) rows moved
 
 -- the rows without these
 abbrev pub without_rows : RowMap → List (RowKey × Attr) → RowMap

@@ -2,12 +2,12 @@
 ghost use Rattle.std.specs.Prelude.{◌≡◌, ◌<◌, ◌^◌, ◌&&◌, if◌then◌else◌, IfOk, OnOk, Some, None, length, map};
 ghost use Rattle.mds_base.specs.RowsCause.{HasRowsCause};
 ghost use Rattle.mds_base.specs.RowKeys.{row_of};
-ghost use Rattle.split.specs.Halves.{is_frozen, half_of, upper_rows, rising, is_moving, is_behind, last_key, key_at, with_rising, with_rows, without_rows};
+ghost use Rattle.split.specs.Halves.{is_frozen, half_of, upper_rows, rising, is_moving, is_behind, last_key, with_rising, with_rows, without_rows};
+ghost use Rattle.name_hash.specs.RowPlace.{row_key};
 
-use crate::key::key_of;
 use chains::reverse;
 use mds_base::{Attr, Cursor, Name, RADIX, Row, RowKey, RowList, Rows, RowsFault, SplitState};
-use name_hash::hash;
+use name_hash::{hash, row_key};
 use std::alloc::{AllocError, Global};
 
 /// Whether a hash lies in the half that a split has frozen (`docs/DEFINITIONS.md`, "Moving half").
@@ -57,7 +57,7 @@ pub fn install<R: Rows>(
     ensures cause { HasRowsCause (R.faults rows.old) (R.faults rows.new) result }
 {
     for row in moved.rows() {
-        rows.put(key_of(alloc, dir, part, &row.name)?, row.attr)?;
+        rows.put(row_key(alloc, dir, part, &row.name)?, row.attr)?;
     }
     Ok(())
 }
@@ -161,7 +161,7 @@ fn rising_key(
 ) -> Result<Option<RowKey>, AllocError>
     requires depth { depth < RADIX }
     requires part { part < 2 ^ depth }
-    ensures { IfOk result (λ key. key ≡ (if is_moving part depth name.now && is_behind (last_key half.now) (key_at dir part name.now) then Some (key_at dir part name.now) else None)) }
+    ensures { IfOk result (λ key. key ≡ (if is_moving part depth name.now && is_behind (last_key half.now) (row_key dir part name.now) then Some (row_key dir part name.now) else None)) }
 {
     let hash = hash(name);
     if hash % (2 << depth) != u64::from(part + (1 << depth)) {

@@ -10,7 +10,6 @@
 
 mod collector;
 mod half;
-mod key;
 mod laws;
 mod pieces;
 

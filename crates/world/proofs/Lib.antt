@@ -20,6 +20,7 @@ pub mod Starts
 pub mod Ends
 pub mod Theorem
 pub mod Known
+pub mod Ranges
 pub mod Within
 pub mod Stepped
 pub mod Runs

@@ -12,7 +12,8 @@ use Rattle.mds_base.specs.Entries.{Entries, place_cmp}
 use Rattle.mds_base.specs.RowKeys.{row_key_cmp}
 use Rattle.mds_base.specs.History.{IsLegal}
 use Rattle.bitmap.specs.Bits.{has}
-use Rattle.node_core.specs.Nodes.{new_node, server_for, session_in, row_in, row_key, part_cmp, new_part}
+use Rattle.node_core.specs.Nodes.{new_node, server_for, session_in, row_in, part_cmp, new_part}
+use Rattle.name_hash.specs.RowPlace.{row_key}
 use Rattle.node_core.proofs.Views.{session_cleared}
 use Rattle.client_core.specs.declared.client.Pending.{Pending}
 use Rattle.client_core.specs.Clients.{new_client, zero_bits}

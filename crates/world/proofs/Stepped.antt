@@ -20,7 +20,7 @@ use Rattle.world.specs.declared.state.ServerState.{ServerState}
 use Rattle.world.specs.declared.event.ServeEnd.{ServeEnd}
 use Rattle.world.specs.declared.event.ServeEnd.TheVariants as ends
 use Rattle.world.specs.Worlds.{WorldV, store_of, with_store}
-use Rattle.world.specs.Events.{seat_at, index_of, is_for_server, is_for_client, serves_at, can_issue, can_resend, can_take, can_serve, onto_msgs, after_issue, after_hint, after_resend, after_resend_of, after_take, after_take_of, after_serve, after_serve_of}
+use Rattle.world.specs.Events.{seat_at, index_of, is_for_server, serves_at, can_issue, can_resend, can_take, can_serve, onto_msgs, after_issue, after_hint, after_resend, after_resend_of, after_take, after_take_of, after_serve, after_serve_of}
 use Rattle.world.proofs.Happens.{two_places}
 
 -- a test that fails where there is nothing passes at places of the list alone
@@ -142,41 +142,41 @@ module _ (i w : WorldV) (same : i ≡ w) (client : ℕ) (seat : ClientState) (re
   resend_is can new msg sent sends sent_is =
       resend_of seat.client.pending new msg sent sends sent_is ∙ ap (λ x. after_resend_of x client seat seat.client.pending) same ∙ ap (after_resend w client) (sym (seat_in can_resend refl can))
 
-  pub take_is : (place : ℕ) → can_take (seat_at w.clients client) ≡ true → is_for_client client (slice_get w.sent place) ≡ true → (msg : Msg) (sent : List Msg) → sent ≡ w.sent → msg ≡ get_or sent place msg
+  pub take_is : (place : ℕ) → can_take (seat_at w.clients client) ≡ true → (msg : Msg) → slice_get i.sent place ≡ Some msg
       → (new : ClientV) → new ≡ (taking.take seat.client msg).client → with_client_at new i.sent ≡ after_take w client (slice_get w.sent place) (seat_at w.clients client)
-  take_is place can is_for msg sent sent_is msg_read new new_is =
+  take_is place can msg read_at new new_is =
       let index = index_is client in
-      let at : slice_get w.sent place ≡ Some msg = item_is (is_for_client client) refl w.sent place is_for msg (msg_read ∙ ap (λ xs. get_or xs place msg) sent_is) in
+      let at : slice_get w.sent place ≡ Some msg = ap (λ (x : WorldV). slice_get x.sent place) (sym same) ∙ read_at in
       let first : with_client_at new i.sent ≡ after_take_of i client seat (Some msg) = cc in
       first ∙ ap (λ x. after_take_of x client seat (Some msg)) same ∙ ap (λ o. after_take w client o (Some seat)) (sym at) ∙ ap (after_take w client (slice_get w.sent place)) (sym (seat_in can_take refl can))
 
 -- Servers
 
-module _ (i w : WorldV) (same : i ≡ w) (server : ℕ) (state : ServerState) (read : state ≡ get_or i.servers server state) (place : ℕ) (msg : Msg) where
+module _ (i w : WorldV) (same : i ≡ w) (server : ℕ) (state : ServerState) (read : state ≡ get_or i.servers server state) (place : ℕ) (msg : Msg) (read_at : slice_get i.sent place ≡ Some msg) where
   abbrev with_state_at : ServerState → List Msg → WorldV
   with_state_at new sent = record { setup = i.setup; now = i.now; servers = slice_set i.servers server new; clients = i.clients; sent = sent }
 
-  served_with : (how : ServeEnd) → can_serve (slice_get w.servers server) ≡ true → is_for_server server (slice_get w.sent place) ≡ true → (sent : List Msg) → sent ≡ w.sent → msg ≡ get_or sent place msg
+  served_with : (how : ServeEnd) → can_serve (slice_get w.servers server) ≡ true
       → after_serve_of i server state (serve_all (store_of state) (msg ∷ []) i.now) how ≡ after_serve w server (place ∷ []) how (slice_get w.servers server)
-  served_with how can is_for sent sent_is msg_read =
+  served_with how can =
       let there : slice_get w.servers server ≡ Some state = item_is can_serve refl w.servers server can state (read ∙ ap (λ (x : WorldV). get_or x.servers server state) same) in
-      let at : slice_get w.sent place ≡ Some msg = item_is (is_for_server server) refl w.sent place is_for msg (msg_read ∙ ap (λ xs. get_or xs place msg) sent_is) in
+      let at : slice_get w.sent place ≡ Some msg = ap (λ (x : WorldV). slice_get x.sent place) (sym same) ∙ read_at in
       ap (λ (x : WorldV). after_serve_of x server state (serve_all (store_of state) (msg ∷ []) x.now) how) same
       ∙ ap (λ o. after_serve_of w server state (serve_all (store_of state) (onto_msgs o []) w.now) how) (sym at)
       ∙ ap (after_serve w server (place ∷ []) how) (sym there)
 
-  pub done_is : can_serve (slice_get w.servers server) ≡ true → is_for_server server (slice_get w.sent place) ≡ true → (sent : List Msg) → sent ≡ w.sent → msg ≡ get_or sent place msg
+  pub done_is : can_serve (slice_get w.servers server) ≡ true
       → (new : ServerState) (outputs all : List Msg) → outputs ≡ (serve (store_of state) msg i.now).outputs → new ≡ with_store state (serve (store_of state) msg i.now).store → all ≡ i.sent ++ outputs
       → with_state_at new all ≡ after_serve w server (place ∷ []) ends.Done (slice_get w.servers server)
-  done_is can is_for sent sent_is msg_read new outputs all outputs_are new_is all_is =
+  done_is can new outputs all outputs_are new_is all_is =
       let whole = append-nil (serve (store_of state) msg i.now).outputs in
       let first : with_state_at new all ≡ after_serve_of i server state (serve_all (store_of state) (msg ∷ []) i.now) ends.Done = cc in
-      first ∙ served_with ends.Done can is_for sent sent_is msg_read
+      first ∙ served_with ends.Done can
 
-  pub stopped_is : can_serve (slice_get w.servers server) ≡ true → is_for_server server (slice_get w.sent place) ≡ true → (sent : List Msg) → sent ≡ w.sent → msg ≡ get_or sent place msg
+  pub stopped_is : can_serve (slice_get w.servers server) ≡ true
       → (new : ServerState) → new ≡ record { node = state.node; rows = state.rows; up = false; doubt = (serve (store_of state) msg i.now).records }
       → with_state_at new i.sent ≡ after_serve w server (place ∷ []) ends.Stop (slice_get w.servers server)
-  stopped_is can is_for sent sent_is msg_read new new_is =
+  stopped_is can new new_is =
       let whole = append-nil (serve (store_of state) msg i.now).records in
       let first : with_state_at new i.sent ≡ after_serve_of i server state (serve_all (store_of state) (msg ∷ []) i.now) ends.Stop = cc in
-      first ∙ served_with ends.Stop can is_for sent sent_is msg_read
+      first ∙ served_with ends.Stop can

@@ -1,5 +1,5 @@
 -- The plain rules at the calls that are served: what a change is allowed to answer, what it leaves, and what it gives.
-use Rattle.std.proofs.Common.{◌≡◌, sym, ap, subst, refl, ℕ, List, [], ◌∷◌, Option, Some, None, MatchOption, inl, inr, cond}
+use Rattle.std.proofs.Common.{◌≡◌, refl, ℕ, List, [], ◌∷◌, Option, Some, None, MatchOption, inl, inr, cond}
 use Rattle.std.specs.Prelude.{◌⊎◌}
 use Rattle.std.specs.FinMap as map
 use Rattle.mds_base.specs.declared.attr.Attr.{Attr}
@@ -10,7 +10,7 @@ use Rattle.mds_base.specs.declared.reply.Final.{Final}
 use Rattle.mds_base.specs.declared.reply.Final.TheVariants.{Created, CreatedDir, Exists, Removed, Missing, IsDir, Set}
 use Rattle.mds_base.specs.declared.reply.Reply.{Reply}
 use Rattle.mds_base.specs.declared.reply.Reply.TheVariants.{Said, Found}
-use Rattle.mds_base.specs.Entries.{Place, Entries, edited, is_file}
+use Rattle.mds_base.specs.Entries.{Entries, edited, is_file}
 use Rattle.mds_base.specs.PlainRules.{Allows, after, edit_of, given_by}
 use Rattle.node_core.specs.Rules.{ChangeOf, LookOf, asked_of, said_of, found}
 use Rattle.node_core.proofs.Calls.{each_change, each_look}

@@ -1,5 +1,5 @@
 -- Where clients send their calls: to a partition that its server keeps.
-use Rattle.std.proofs.Common.{◌≡◌, refl, ℕ, zero, suc, ◌%◌, ◌^◌, ◌<◌, Bool, true, List, arith}
+use Rattle.std.proofs.Common.{◌≡◌, ℕ, zero, suc, ◌%◌, ◌^◌, ◌<◌, Bool, true, List, arith}
 use Rattle.std.proofs.Math.Nat.{mod-one}
 use Rattle.std.proofs.lemmas.Bool.{and_parts}
 use Rattle.mds_base.specs.declared.TheConstants.{RADIX}

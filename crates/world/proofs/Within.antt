@@ -1,12 +1,11 @@
 -- Events keep the ranges of a world's numbers.
-use Rattle.std.proofs.Common.{◌≡◌, ◌∙◌, sym, ap, subst, refl, ℕ, suc, ◌+◌, ◌-◌, ◌<◌, ◌&&◌, not, Bool, true, false, List, [], ◌∷◌, ◌++◌, get_or, Option, Some, None, Result, Ok, Err, OnOk, OnErr, arith, append_assoc}
+use Rattle.std.proofs.Common.{◌≡◌, ◌∙◌, sym, ap, subst, refl, ℕ, ◌+◌, ◌-◌, ◌<◌, ◌&&◌, not, Bool, true, false, List, [], ◌∷◌, ◌++◌, get_or, Option, Some, None, Result, Ok, Err, OnOk, OnErr, arith}
 use Rattle.std.specs.Prelude.{slice_set, nat_lt}
 use Rattle.std.specs.Prelude.{map as list_map}
 use Rattle.std.specs.List.{slice_get, range_with_len}
 use Rattle.std.proofs.lemmas.Bool.{and_parts, ltb-true}
-use Rattle.std.proofs.lemmas.List.{append-nil}
 use Rattle.std.proofs.lemmas.List.FromFn.{map-range_with_len_more}
-use Rattle.mds_base.specs.declared.limits.TheConstants.{CALLS, DIRECTORIES, MOMENTS}
+use Rattle.mds_base.specs.declared.limits.TheConstants.{CALLS, DIRECTORIES}
 use Rattle.mds_base.specs.declared.setup.Setup.{Setup}
 use Rattle.mds_base.specs.declared.ask.Ask.{Ask}
 use Rattle.mds_base.specs.declared.call.Call.{Call}
@@ -26,11 +25,12 @@ use Rattle.world.specs.declared.state.ServerState.{ServerState}
 use Rattle.world.specs.declared.state.ClientState.{ClientState}
 use Rattle.mds_base.specs.Lists.{Each}
 use Rattle.mds_base.specs.Setups.{IsSetup}
-use Rattle.world.specs.Ranges.{AreRanges, PendingFits}
+use Rattle.world.specs.Ranges.{IsRanged, PendingFits, SeatFits, DoubtFits}
 use Rattle.world.specs.Worlds.{WorldV, store_of, new_server, new_seat}
-use Rattle.world.specs.Events.{is_call, is_open, seat_at, is_for_server, can_issue, can_resend, can_take, can_serve}
+use Rattle.world.specs.Events.{is_call, is_open, seat_at, can_issue, can_resend, can_take, can_serve}
 use Rattle.mds_base.proofs.Grow.{each_push, each_set}
 use Rattle.node_core.proofs.Calls.{well_made_fits}
+use Rattle.world.proofs.Ranges.{seat_set, msg_sent, msgs_sent}
 use Rattle.world.proofs.Starts.{ranged}
 use Rattle.world.proofs.Stepped.{item_is, seat_is, seat_place}
 
@@ -43,12 +43,6 @@ call_fits call e = well_made_fits call (and_parts (is_served call) (is_well_made
 
 pub each_none : {X : Type 0} {P : ℕ → X → Type 0} → Each [] P
 each_none = record { at = λ k x e. cc }
-
-pub each_append : {X : Type 0} (P : X → Type 0) (ys xs : List X) → Each xs (λ k x. P x) → Each ys (λ k y. P y) → Each (xs ++ ys) (λ k x. P x)
-each_append P [] xs all more = subst (λ zs. Each zs (λ k x. P x)) (sym (append-nil xs)) all
-each_append P (y ∷ ys) xs all more =
-    let one : Each (xs ++ y ∷ []) (λ k x. P x) = each_push y all (more.at 0 y refl) in
-    subst (λ zs. Each zs (λ k x. P x)) (append_assoc xs (y ∷ []) ys) (each_append P ys (xs ++ y ∷ []) one (record { at = λ k x e. more.at (suc k) x e }))
 
 -- What serving gives
 
@@ -121,38 +115,37 @@ pub one_more : {X : Type 0} (f : ℕ → X) (a n j : ℕ) → a + n ≡ j → (x
 one_more f a n j sum xs xs_are x x_is ys ys_are = let more = map-range_with_len_more f a n j sum in cc
 
 pub new_ranges : (setup : Setup) → IsSetup setup → (servers : List ServerState) (clients : List ClientState) → servers ≡ list_map (new_server setup) (range_with_len 0 setup.servers) → clients ≡ list_map (new_seat setup) (range_with_len 1 setup.clients)
-    → AreRanges setup 0 servers clients []
+    → IsRanged setup 0 servers clients []
 new_ranges setup is servers clients servers_are clients_are = record {
-  setup' = is;
-  moment = omega arith;
+  ranges = record {
+    setup' = is;
+    moment = omega arith;
+    seats' = record {
+      at = λ k seat at.
+          subst (SeatFits k) (ranged (new_seat setup) 1 setup.clients k seat (ap (λ xs. slice_get xs k) (sym clients_are) ∙ at)) tt;
+    };
+    sent' = each_none;
+  };
   doubts = record {
     at = λ k state at.
-        subst (λ (x : ServerState). Each x.doubt (λ j item. RecordFits item)) (ranged (new_server setup) 0 setup.servers k state (ap (λ xs. slice_get xs k) (sym servers_are) ∙ at)) each_none;
+        subst (DoubtFits k) (ranged (new_server setup) 0 setup.servers k state (ap (λ xs. slice_get xs k) (sym servers_are) ∙ at)) each_none;
   };
-  calls = record {
-    at = λ k seat at.
-        subst (λ (x : ClientState). PendingFits x.client.pending) (ranged (new_seat setup) 1 setup.clients k seat (ap (λ xs. slice_get xs k) (sym clients_are) ∙ at)) tt;
-  };
-  requests = each_none;
 }
 
 -- The ranges of a world of which one part was changed
 
-module _ {setup : Setup} {now : ℕ} {servers : List ServerState} {clients : List ClientState} {sent : List Msg} (ranges : AreRanges setup now servers clients sent) where
-  pub with_seat : (k : ℕ) (seat : ClientState) → PendingFits seat.client.pending → AreRanges setup now servers (slice_set clients k seat) sent
-  with_seat k seat fits = record { setup' = ranges.setup'; moment = ranges.moment; doubts = ranges.doubts; calls = each_set k seat ranges.calls fits; requests = ranges.requests }
+module _ {setup : Setup} {now : ℕ} {servers : List ServerState} {clients : List ClientState} {sent : List Msg} (r : IsRanged setup now servers clients sent) where
+  pub with_seat : (k : ℕ) (seat : ClientState) → PendingFits seat.client.pending → IsRanged setup now servers (slice_set clients k seat) sent
+  with_seat k seat fits = record { ranges = seat_set r.ranges k seat fits; doubts = r.doubts }
 
-  pub with_msg : (msg : Msg) → DirFits msg → AreRanges setup now servers clients (sent ++ msg ∷ [])
-  with_msg msg fits = record { setup' = ranges.setup'; moment = ranges.moment; doubts = ranges.doubts; calls = ranges.calls; requests = each_push msg ranges.requests fits }
+  pub with_msg : (msg : Msg) → DirFits msg → IsRanged setup now servers clients (sent ++ msg ∷ [])
+  with_msg msg fits = record { ranges = msg_sent r.ranges msg fits; doubts = r.doubts }
 
-  pub with_msgs : (msgs : List Msg) → Each msgs (λ k m. DirFits m) → AreRanges setup now servers clients (sent ++ msgs)
-  with_msgs msgs fit = record { setup' = ranges.setup'; moment = ranges.moment; doubts = ranges.doubts; calls = ranges.calls; requests = each_append DirFits msgs sent ranges.requests fit }
+  pub with_msgs : (msgs : List Msg) → Each msgs (λ k m. DirFits m) → IsRanged setup now servers clients (sent ++ msgs)
+  with_msgs msgs fit = record { ranges = msgs_sent r.ranges msgs fit; doubts = r.doubts }
 
-  pub with_server : (s : ℕ) (state : ServerState) → Each state.doubt (λ k item. RecordFits item) → AreRanges setup now (slice_set servers s state) clients sent
-  with_server s state fit = record { setup' = ranges.setup'; moment = ranges.moment; doubts = each_set s state ranges.doubts fit; calls = ranges.calls; requests = ranges.requests }
-
-  pub with_moment : (later : ℕ) → later < MOMENTS → AreRanges setup later servers clients sent
-  with_moment later fits = record { setup' = ranges.setup'; moment = fits; doubts = ranges.doubts; calls = ranges.calls; requests = ranges.requests }
+  pub with_server : (s : ℕ) (state : ServerState) → Each state.doubt (λ k item. RecordFits item) → IsRanged setup now (slice_set servers s state) clients sent
+  with_server s state fit = record { ranges = r.ranges; doubts = each_set s state r.doubts fit }
 
 -- What code reads is within its range, and so is what it writes
 
@@ -173,33 +166,33 @@ sends_fit : (client new : ClientV) (msg : Msg) (p : Option Pending) → SendsAga
 sends_fit client new msg None sends fits = absurd sends
 sends_fit client new msg (Some pending) sends fits = (subst (λ (x : ClientV). PendingFits x.pending) (sym sends.1) fits, subst DirFits (sym sends.0) fits)
 
-module _ (i w : WorldV) (same : i ≡ w) (ranges : AreRanges i.setup i.now i.servers i.clients i.sent) where
+module _ (i w : WorldV) (same : i ≡ w) (r : IsRanged i.setup i.now i.servers i.clients i.sent) where
   module _ (client : ℕ) (seat : ClientState) (read : seat ≡ get_or i.clients (client - 1) seat) where
     seat_fits : (f : Option ClientState → Bool) → f None ≡ false → f (seat_at w.clients client) ≡ true → PendingFits seat.client.pending
     seat_fits f none can =
-        ranges.calls.at (client - 1) seat (seat_place f none i.clients client (subst (λ (x : WorldV). f (seat_at x.clients client) ≡ true) (sym same) can) seat read)
+        r.ranges.seats'.at (client - 1) seat (seat_place f none i.clients client (subst (λ (x : WorldV). f (seat_at x.clients client) ≡ true) (sym same) can) seat read)
 
     pub issued_fits : (call call' : Call) → can_issue (seat_at w.clients client) call ≡ true → call' ≡ call → (new : ClientV) → new ≡ issued seat.client call' → PendingFits new.pending
     issued_fits call call' can call_is new new_is =
         subst (λ (x : ClientV). PendingFits x.pending) (sym new_is) (subst (λ x. dir_of x < DIRECTORIES) (sym call_is) (issue_fits (seat_at w.clients client) call can))
 
     pub issued_ranges : (call call' : Call) → can_issue (seat_at w.clients client) call ≡ true → call' ≡ call → (new : ClientV) → new ≡ issued seat.client call' → (msg : Msg) → msg ≡ issue_msg seat.client call' → (sent : List Msg) → sent ≡ i.sent ++ msg ∷ []
-        → AreRanges i.setup i.now i.servers (slice_set i.clients (client - 1) (record { client = new; quit = seat.quit })) sent
+        → IsRanged i.setup i.now i.servers (slice_set i.clients (client - 1) (record { client = new; quit = seat.quit })) sent
     issued_ranges call call' can call_is new new_is msg msg_is sent sent_is =
         let fits : dir_of call' < DIRECTORIES = subst (λ x. dir_of x < DIRECTORIES) (sym call_is) (issue_fits (seat_at w.clients client) call can) in
-        subst (λ xs. AreRanges i.setup i.now i.servers (slice_set i.clients (client - 1) (record { client = new; quit = seat.quit })) xs) (sym sent_is)
-        (with_msg (with_seat ranges (client - 1) (record { client = new; quit = seat.quit }) (issued_fits call call' can call_is new new_is)) msg
+        subst (λ xs. IsRanged i.setup i.now i.servers (slice_set i.clients (client - 1) (record { client = new; quit = seat.quit })) xs) (sym sent_is)
+        (with_msg (with_seat r (client - 1) (record { client = new; quit = seat.quit }) (issued_fits call call' can call_is new new_is)) msg
         (subst DirFits (sym msg_is) fits))
 
     pub resent_fits : can_resend (seat_at w.clients client) ≡ true → (new : ClientV) (msg : Msg) → SendsAgain seat.client new msg seat.client.pending → PendingFits new.pending
     resent_fits can new msg sends = (sends_fit seat.client new msg seat.client.pending sends (seat_fits can_resend refl can)).0
 
     pub resent_ranges : can_resend (seat_at w.clients client) ≡ true → (new : ClientV) (msg : Msg) → SendsAgain seat.client new msg seat.client.pending → (sent : List Msg) → sent ≡ i.sent ++ msg ∷ []
-        → AreRanges i.setup i.now i.servers (slice_set i.clients (client - 1) (record { client = new; quit = seat.quit })) sent
+        → IsRanged i.setup i.now i.servers (slice_set i.clients (client - 1) (record { client = new; quit = seat.quit })) sent
     resent_ranges can new msg sends sent sent_is =
         let fits = sends_fit seat.client new msg seat.client.pending sends (seat_fits can_resend refl can) in
-        subst (λ xs. AreRanges i.setup i.now i.servers (slice_set i.clients (client - 1) (record { client = new; quit = seat.quit })) xs) (sym sent_is)
-        (with_msg (with_seat ranges (client - 1) (record { client = new; quit = seat.quit }) fits.0) msg fits.1)
+        subst (λ xs. IsRanged i.setup i.now i.servers (slice_set i.clients (client - 1) (record { client = new; quit = seat.quit })) xs) (sym sent_is)
+        (with_msg (with_seat r (client - 1) (record { client = new; quit = seat.quit }) fits.0) msg fits.1)
 
     pub hinted_fits : {T E : Type 0} → can_take (seat_at w.clients client) ≡ true → (dir : ℕ) (bits : Bits) (result : Result T E) (new : ClientV) → OnOk result (new ≡ merged seat.client dir bits) → OnErr result (new ≡ seat.client) → PendingFits new.pending
     hinted_fits can dir bits (Ok x) new ok err = subst (λ (x : ClientV). PendingFits x.pending) (sym ok) (seat_fits can_take refl can)
@@ -210,17 +203,16 @@ module _ (i w : WorldV) (same : i ≡ w) (ranges : AreRanges i.setup i.now i.ser
 
   module _ (server : ℕ) (state : ServerState) (read : state ≡ get_or i.servers server state) (can : can_serve (slice_get w.servers server) ≡ true) where
     state_fits : Each state.doubt (λ k item. RecordFits item)
-    state_fits = ranges.doubts.at server state (item_is can_serve refl i.servers server (subst (λ (x : WorldV). can_serve (slice_get x.servers server) ≡ true) (sym same) can) state read)
+    state_fits = r.doubts.at server state (item_is can_serve refl i.servers server (subst (λ (x : WorldV). can_serve (slice_get x.servers server) ≡ true) (sym same) can) state read)
 
     pub done_ranges : (new : ServerState) → new.doubt ≡ state.doubt → (msg : Msg) (outputs all : List Msg) → outputs ≡ (serve (store_of state) msg i.now).outputs → all ≡ i.sent ++ outputs
-        → AreRanges i.setup i.now (slice_set i.servers server new) i.clients all
+        → IsRanged i.setup i.now (slice_set i.servers server new) i.clients all
     done_ranges new doubt msg outputs all outputs_are all_is =
-        subst (λ xs. AreRanges i.setup i.now (slice_set i.servers server new) i.clients xs) (sym (all_is ∙ ap (λ o. i.sent ++ o) outputs_are))
-        (with_msgs (with_server ranges server new (subst (λ d. Each d (λ k item. RecordFits item)) (sym doubt) state_fits)) (serve (store_of state) msg i.now).outputs (outputs_fit (store_of state) msg i.now))
+        subst (λ xs. IsRanged i.setup i.now (slice_set i.servers server new) i.clients xs) (sym (all_is ∙ ap (λ o. i.sent ++ o) outputs_are))
+        (with_msgs (with_server r server new (subst (λ d. Each d (λ k item. RecordFits item)) (sym doubt) state_fits)) (serve (store_of state) msg i.now).outputs (outputs_fit (store_of state) msg i.now))
 
-    pub stopped_ranges : (place : ℕ) (msg : Msg) (sent : List Msg) → is_for_server server (slice_get w.sent place) ≡ true → sent ≡ w.sent → msg ≡ get_or sent place msg
-        → (new : ServerState) → new ≡ record { node = state.node; rows = state.rows; up = false; doubt = (serve (store_of state) msg i.now).records } → AreRanges i.setup i.now (slice_set i.servers server new) i.clients i.sent
-    stopped_ranges place msg sent is_for sent_is msg_read new new_is =
-        let at : slice_get w.sent place ≡ Some msg = item_is (is_for_server server) refl w.sent place is_for msg (msg_read ∙ ap (λ xs. get_or xs place msg) sent_is) in
-        let fits : DirFits msg = ranges.requests.at place msg (ap (λ (x : WorldV). slice_get x.sent place) same ∙ at) in
-        with_server ranges server new (subst (λ (x : ServerState). Each x.doubt (λ k item. RecordFits item)) (sym new_is) (records_fit (store_of state) msg i.now fits))
+    pub stopped_ranges : (place : ℕ) (msg : Msg) → slice_get i.sent place ≡ Some msg
+        → (new : ServerState) → new ≡ record { node = state.node; rows = state.rows; up = false; doubt = (serve (store_of state) msg i.now).records } → IsRanged i.setup i.now (slice_set i.servers server new) i.clients i.sent
+    stopped_ranges place msg at new new_is =
+        let fits : DirFits msg = r.ranges.sent'.at place msg at in
+        with_server r server new (subst (λ (x : ServerState). Each x.doubt (λ k item. RecordFits item)) (sym new_is) (records_fit (store_of state) msg i.now fits))

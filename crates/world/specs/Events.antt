@@ -1,5 +1,5 @@
 -- When an event is enabled in a world, and the world after it.
-use Rattle.std.specs.Prelude.{ℕ, zero, suc, ◌+◌, ◌^◌, ◌&&◌, ◌||◌, ◌==◌, not, Bool, true, false, List, [], ◌∷◌, ◌++◌, length, take, slice_set, Option, Some, None, nat_lt}
+use Rattle.std.specs.Prelude.{ℕ, zero, suc, ◌+◌, ◌&&◌, ◌||◌, ◌==◌, not, Bool, true, false, List, [], ◌∷◌, ◌++◌, length, take, slice_set, Option, Some, None, nat_lt}
 use Rattle.std.specs.List.{slice_get, list_all, list_any}
 use Rattle.std.specs.FinSet as set
 use Rattle.mds_base.specs.declared.limits.TheConstants.{ATTEMPTS, CALLS, MOMENTS}

@@ -9,7 +9,7 @@ use bitmap::Bitmap;
 use mds_base::limits::{ATTEMPTS, CALLS};
 use mds_base::{Call, PlaceList, RADIX};
 use node_core::is_served;
-use records::Msg;
+use records::{Msg, MsgList};
 
 /// The client of a number.
 pub fn seat_at(clients: &[ClientState], client: u32) -> Option<&ClientState>
@@ -22,7 +22,7 @@ pub fn seat_at(clients: &[ClientState], client: u32) -> Option<&ClientState>
 }
 
 /// The message at a place.
-pub fn msg_at(sent: &[Msg], place: u64) -> Option<&Msg>
+pub fn msg_at(sent: &MsgList, place: u64) -> Option<&Msg>
     ensures { option_copied result ≡ slice_get sent.now place }
 {
     sent.get(place as usize)
@@ -120,7 +120,7 @@ pub fn can_restart(state: Option<&ServerState>, kept: u32) -> bool
 }
 
 /// Whether the places are those of one message, which is for the server.
-pub fn serves_at(sent: &[Msg], server: u32, places: &PlaceList) -> bool
+pub fn serves_at(sent: &MsgList, server: u32, places: &PlaceList) -> bool
     ensures { result ≡ serves_at sent.now server places.now }
 {
     match places.places() {

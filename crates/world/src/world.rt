@@ -15,7 +15,7 @@ use crate::state::{ClientState, ServerState};
 use bitmap::Bitmap;
 use mds_base::limits::MOMENTS;
 use mds_base::{Call, PlaceList, Setup};
-use records::{Msg, MsgList};
+use records::MsgList;
 use std::alloc::{AllocError, Global};
 use std::marker::Model;
 
@@ -34,7 +34,7 @@ impl Model for World {
     ghost use Rattle.std.specs.FinSet as set;
     ghost use Rattle.std.specs.Coded.{codes};
     ghost use Rattle.world.specs.Worlds.{WorldV};
-    ghost use Rattle.world.specs.Ranges.{AreRanges};
+    ghost use Rattle.world.specs.Ranges.{IsRanged};
 
     ghost Value = { WorldV };
 
@@ -42,7 +42,7 @@ impl Model for World {
 
     ghost view = { λ a. record { setup = a.setup; now = a.moment; servers = a.servers.items; clients = a.clients.items; sent = a.sent } };
 
-    ghost invariant = { λ a. AreRanges a.setup a.moment a.servers.items a.clients.items a.sent };
+    ghost invariant = { λ a. IsRanged a.setup a.moment a.servers.items a.clients.items a.sent };
 }
 
 impl World {
@@ -90,10 +90,10 @@ impl World {
     }
 
     /// All messages that were ever sent, in the order in which they were sent.
-    pub fn sent(&self) -> &[Msg]
+    pub fn sent(&self) -> &MsgList
         ensures { result.now ≡ self.now.sent }
     {
-        self.sent.messages()
+        &self.sent
     }
 
     /// Whether an event may happen now (`docs/DEFINITIONS.md`, "Events"), in time by what the event names; a Hint looks
@@ -110,12 +110,12 @@ impl World {
                 how: _,
             } => {
                 can_serve(self.servers.get(*server as usize))
-                    && serves_at(self.sent.messages(), *server, places)
+                    && serves_at(&self.sent, *server, places)
             }
-            Event::Miss { place } => { misses(&self.servers, msg_at(self.sent.messages(), *place)) }
+            Event::Miss { place } => { misses(&self.servers, msg_at(&self.sent, *place)) }
             Event::Take { client, place } => {
                 can_take(seat_at(&self.clients, *client))
-                    && is_for_client(*client, msg_at(self.sent.messages(), *place))
+                    && is_for_client(*client, msg_at(&self.sent, *place))
             }
             Event::Cached { .. } => false,
             Event::Hint {
@@ -218,7 +218,7 @@ impl World {
         requires is_for { is_for_client client (slice_get self.old.sent place) ≡ true }
         ensures { OnOk result (self.new ≡ after_take self.old client (slice_get self.old.sent place) (seat_at self.old.clients client)) }
     {
-        let msg = &self.sent.messages()[place as usize];
+        let msg = msg_at(&self.sent, place).unwrap();
         let seat = &mut self.clients[client as usize - 1];
         let _ = seat.client.take(alloc, msg)?;
         Ok(())
@@ -262,7 +262,7 @@ impl World {
         requires is_for { is_for_server server (slice_get self.old.sent place) ≡ true }
         ensures { OnOk result (self.new ≡ after_serve self.old server (place ∷ []) ServeEnd.Done (slice_get self.old.servers server)) }
     {
-        let msg = &self.sent.messages()[place as usize];
+        let msg = msg_at(&self.sent, place).unwrap();
         let state = &mut self.servers[server as usize];
         let mut outputs = state.serve(alloc, msg, self.moment)?;
         self.sent.append(&mut outputs)?;
@@ -274,7 +274,7 @@ impl World {
         requires is_for { is_for_server server (slice_get self.old.sent place) ≡ true }
         ensures { OnOk result (self.new ≡ after_serve self.old server (place ∷ []) ServeEnd.Stop (slice_get self.old.servers server)) }
     {
-        let msg = &self.sent.messages()[place as usize];
+        let msg = msg_at(&self.sent, place).unwrap();
         let state = &mut self.servers[server as usize];
         state.stop_serving(alloc, msg, self.moment)?;
         Ok(())

@@ -7,9 +7,10 @@ use Rattle.node_store.proofs.opening.piece.Goals as goal
 
 pub end-requires-clause-short : goal.end-requires-clause-short
 end-requires-clause-short c =
-    let short = record_short c.args.item.now c.requires in
+    let short = record_short c.args.item.now c.requires.spelled in
+    let rows = ap length c.requires.without_rows in
     let long = ap length c.in_ok-write.ensures.ok ∙ length-append c.in_ok-body.body.items (record_spelling c.args.item.now) in
-    omega (arith, long, c.in_ok-body.ensures, short)
+    omega (arith, long, c.in_ok-body.ensures, short, rows)
 
 pub returns : goal.returns
 returns c =

@@ -17,10 +17,10 @@ loop-row-preserved g c =
     let added = c.loop-row.added in
     record {
       so_far = is_added (g.R.Rows.contents c.args.rows.now) c.args.dir c.args.part c.args.load.now c.loop-row.row-index c.loop-row.edits added c.row-item.result key c.in_ok-is_there.field-0
-          c.push.new.self c.put.new.self c.in_ok-copy_of.field-0 c.loop-row.invariant.so_far (omega arith) c.row-item.is c.in_ok-key.ensures
+          c.push.new.self c.put.new.self c.in_ok-copy.field-0 c.loop-row.invariant.so_far (omega arith) c.row-item.is c.in_ok-key.ensures
           (c.in_ok-is_there.ensures.ok ∙ ap (λ m. is_some (map.get added key) || is_some (map.get m key)) c.loop-row.invariant.rows)
-          c.if-branch.false c.in_ok-copy_of.ensures
-          (c.in_ok-put.ensures.ok ∙ ap (λ m. map.insert m c.in_ok-copy_of.field-0 c.row-item.result.attr) c.in_ok-is_there.ensures.added)
+          c.if-branch.false c.in_ok-copy.ensures
+          (c.in_ok-put.ensures.ok ∙ ap (λ m. map.insert m c.in_ok-copy.field-0 c.row-item.result.attr) c.in_ok-is_there.ensures.added)
           c.in_ok-push.ensures.ok;
       rows = c.in_ok-is_there.ensures.rows ∙ c.loop-row.invariant.rows;
       faults = c.in_ok-is_there.ensures.cause.kept ∙ c.loop-row.invariant.faults;

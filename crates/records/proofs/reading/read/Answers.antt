@@ -3,7 +3,7 @@ use Rattle.std.proofs.lemmas.List.{length-drop}
 use Rattle.records.specs.declared.fault.Fault.TheVariants.{Short, Bad}
 use Rattle.records.specs.declared.fault.RecordFault.TheVariants as faults
 use Rattle.records.specs.Spelling.{IsBadAt}
-use Rattle.records.specs.Reading.{record_at}
+use Rattle.records.specs.ReadingRecords.{record_at}
 use Rattle.records.specs.declared.record.Record.{Record}
 use Rattle.records.proofs.Decoding.{same_ok, not_both}
 use Rattle.records.proofs.Fronts.{front_found, front_read, begun_found, begun_read, bad_found, one_bad, bad_no_record, bad_not_short, stopped_at}

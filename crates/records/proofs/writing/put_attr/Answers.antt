@@ -8,10 +8,10 @@ use Rattle.records.proofs.writing.put_attr.Goals as goal
 regrouped : (old dir mode size stamp : List ℕ) → (old ++ (dir ++ (mode ++ size))) ++ stamp ≡ old ++ (dir ++ (mode ++ (size ++ stamp)))
 regrouped old dir mode size stamp = simp append_assoc
 
-pub returns-then-stamped : goal.returns-then-stamped
-returns-then-stamped c =
+pub returns-then-stamped-clause-ok : goal.returns-then-stamped-clause-ok
+returns-then-stamped-clause-ok c =
     let attr = c.args.attr.now in
     let old = c.args.out.now.items in
     let stamp : List ℕ = to_be_bytes w32 attr.owner ++ to_be_bytes w64 attr.mtime in
     let grouped = regrouped old (to_be_bytes w64 attr.dir) (to_be_bytes w16 attr.mode) (to_be_bytes w64 attr.size) stamp in
-    on_ok_weaker c.put_stamp.result (λ written. written ∙ ap (λ (t : List ℕ). t ++ stamp) c.in_ok-put_numbered.ensures ∙ grouped ∙ ap (λ (b : Bool). old ++ attr_spelling b attr) (sym c.if-stamped.true)) c.put_stamp.ensures
+    on_ok_weaker c.put_stamp.result (λ written. written ∙ ap (λ (t : List ℕ). t ++ stamp) c.in_ok-put_numbered.ensures.ok ∙ grouped ∙ ap (λ (b : Bool). old ++ attr_spelling b attr) (sym c.if-stamped.true)) c.put_stamp.ensures.ok

@@ -10,10 +10,10 @@ use Rattle.records.proofs.writing.put_record.Goals as goal
 regrouped : (kind : ℕ) (old client seq part reply : List ℕ) → ((old ++ kind ∷ []) ++ (client ++ (seq ++ part))) ++ reply ≡ old ++ kind ∷ (client ++ (seq ++ (part ++ reply)))
 regrouped kind old client seq part reply = simp append_assoc
 
-pub returns-in_ok-put_numbers-in-Served : goal.returns-in_ok-put_numbers-in-Served
-returns-in_ok-put_numbers-in-Served c =
+pub returns-in_ok-put_numbers-in-Served-clause-ok : goal.returns-in_ok-put_numbers-in-Served-clause-ok
+returns-in_ok-put_numbers-in-Served-clause-ok c =
     let s = c.in-Served in
-    let numbers = c.in_ok-put_numbers-in-Served.ensures ∙ ap (λ (t : List ℕ). t ++ (to_be_bytes w32 s.client ++ (to_be_bytes w64 s.seq ++ to_be_bytes w32 s.part))) c.in_ok-push-in-Served.ensures.items in
+    let numbers = c.in_ok-put_numbers-in-Served.ensures.ok ∙ ap (λ (t : List ℕ). t ++ (to_be_bytes w32 s.client ++ (to_be_bytes w64 s.seq ++ to_be_bytes w32 s.part))) c.in_ok-put_byte-in-Served.ensures.ok in
     let reply : List ℕ = call_spelling s.call ++ final_spelling s.said in
     let grouped = regrouped RECORD_SERVED c.args.out.now.items (to_be_bytes w32 s.client) (to_be_bytes w64 s.seq) (to_be_bytes w32 s.part) reply in
-    on_ok_weaker c.put_answered.result (λ answered. answered ∙ ap (λ (t : List ℕ). t ++ reply) numbers ∙ grouped ∙ ap (λ (item : Record). c.args.out.now.items ++ record_spelling item) (sym s.is)) c.put_answered.ensures
+    on_ok_weaker c.put_answered.result (λ answered. answered ∙ ap (λ (t : List ℕ). t ++ reply) numbers ∙ grouped ∙ ap (λ (item : Record). c.args.out.now.items ++ record_spelling item) (sym s.is)) c.put_answered.ensures.ok

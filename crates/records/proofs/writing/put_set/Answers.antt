@@ -12,13 +12,13 @@ use Rattle.records.proofs.writing.put_set.Goals as goal
 regrouped : (kind : ℕ) (old dir name mode rest : List ℕ) → ((old ++ kind ∷ (dir ++ name)) ++ mode) ++ rest ≡ old ++ kind ∷ (dir ++ (name ++ (mode ++ rest)))
 regrouped kind old dir name mode rest = simp append_assoc
 
-pub returns-in_ok-put_u16-in-Some : goal.returns-in_ok-put_u16-in-Some
-returns-in_ok-put_u16-in-Some c =
+pub returns-in_ok-put_u16-in-Some-clause-ok : goal.returns-in_ok-put_u16-in-Some-clause-ok
+returns-in_ok-put_u16-in-Some-clause-ok c =
     let s = c.in-Some in
     let rest : List ℕ = to_be_bytes w64 c.args.size ++ (to_be_bytes w32 s.stamp.owner ++ to_be_bytes w64 s.stamp.mtime) in
-    let start = c.in_ok-put_start-in-Some.ensures in
-    let mode = c.in_ok-put_u16-in-Some.ensures in
+    let start = c.in_ok-put_start-in-Some.ensures.ok in
+    let mode = c.in_ok-put_u16-in-Some.ensures.ok in
     let before = mode ∙ ap (λ (t : List ℕ). t ++ to_be_bytes w16 c.args.mode) start in
     let grouped = regrouped CALL_STAMP c.args.out.now.items (to_be_bytes w64 c.args.dir) (name_spelling c.args.name.now) (to_be_bytes w16 c.args.mode) rest in
     let stamped = ap (λ (stamp : Option Stamp). c.args.out.now.items ++ call_spelling (Setattr c.args.dir c.args.name.now c.args.mode c.args.size stamp)) (sym s.is) in
-    on_ok_weaker c.put_stamped.result (λ written. written ∙ ap (λ (t : List ℕ). t ++ rest) before ∙ grouped ∙ stamped) c.put_stamped.ensures
+    on_ok_weaker c.put_stamped.result (λ written. written ∙ ap (λ (t : List ℕ). t ++ rest) before ∙ grouped ∙ stamped) c.put_stamped.ensures.ok

@@ -3,7 +3,8 @@ use Rattle.std.specs.FinMap as map
 use Rattle.mds_base.specs.declared.reply.Reply.TheVariants.{Said}
 use Rattle.records.specs.declared.record.Record.TheVariants.{Served}
 use Rattle.node_core.specs.declared.plan.Plan.{Plan}
-use Rattle.node_core.specs.Nodes.{NodeV, StoreV, row_in, edited_rows, rows_after}
+use Rattle.node_core.specs.Nodes.{NodeV, StoreV, row_in, rows_after}
+use Rattle.mds_base.specs.RowKeys.{edited_rows}
 use Rattle.node_core.specs.Rules.{said_of}
 use Rattle.node_core.specs.Serving.{answer_to}
 use Rattle.node_core.specs.Planning.{IsPlanOf}

@@ -1,6 +1,7 @@
 use Rattle.std.proofs.Common.{◌≡◌, ◌∙◌, sym, ap, true}
 use Rattle.std.specs.FinMap as map
-use Rattle.node_core.specs.Nodes.{NodeV, StoreV, row_in, edited_rows, rows_after}
+use Rattle.node_core.specs.Nodes.{NodeV, StoreV, row_in, rows_after}
+use Rattle.mds_base.specs.RowKeys.{edited_rows}
 use Rattle.node_core.specs.Rules.{said_of}
 use Rattle.node_core.specs.Serving.{may_carry}
 use Rattle.node_core.proofs.Served.{noted_so, rows_so}

@@ -1,51 +1,56 @@
-use Rattle.std.proofs.Common.{sym, subst, refl, ◌<◌, arith}
-use Rattle.mds_base.specs.declared.limits.TheConstants.{EVENTS}
-use Rattle.mds_out.specs.Fused.{Fused}
+use Rattle.std.proofs.Common.{refl, arith}
+use Rattle.node_core.proofs.Calls.{well_made_fits}
 use Rattle.simulation.specs.Fuses.{seen_by, images_by}
-use Rattle.simulation.specs.Shows.{SimulationV, is_idle}
-use Rattle.simulation.proofs.Carried.{seat_below, is_free, few_calls, made_fits, ranged_refused, ranged_issued, send_place, issue_asks, issue_done}
+use Rattle.simulation.specs.Moves.{issued_by}
+use Rattle.simulation.specs.Shows.{is_idle}
+use Rattle.world.specs.declared.event.Event.TheVariants.{Issue}
+use Rattle.simulation.proofs.ClientStep.{called, seat_below, idle, left, numbers_at, stayed_ranged, issuing, issued_is, send_ranged, send_place, send_request, send_after, happens_after}
+use Rattle.simulation.proofs.Ranged.{in_range}
+use Rattle.simulation.proofs.Sending.{issued_happens}
 use Rattle.simulation.proofs.simulation.Simulation.issue.Goals as goal
 
+pub index_mut-requires : goal.index_mut-requires
+index_mut-requires g c = let low = seat_below c.self.view_is is_idle c.args.client refl c.requires.free in omega (arith, low)
+
 pub issue-requires-clause-idle : goal.issue-requires-clause-idle
-issue-requires-clause-idle g c = (is_free _ _ c.args.client c.index_mut.result.now c.self.view_is c.requires.free c.index_mut.ensures.value).idle
+issue-requires-clause-idle g c = idle (called c.self.view_is is_idle c.args.client c.index_mut.result.now c.self.invariant.0 c.requires.room refl c.requires.free c.index_mut.ensures.value)
 
 pub issue-requires-clause-room : goal.issue-requires-clause-room
-issue-requires-clause-room g c =
-    let free = is_free _ _ c.args.client c.index_mut.result.now c.self.view_is c.requires.free c.index_mut.ensures.value in
-    few_calls _ _ _ _ _ _ c.self.invariant.0 _ _ free.at.place
+issue-requires-clause-room g c = (left (called c.self.view_is is_idle c.args.client c.index_mut.result.now c.self.invariant.0 c.requires.room refl c.requires.free c.index_mut.ensures.value)).0
 
 pub issue-requires-clause-fits : goal.issue-requires-clause-fits
-issue-requires-clause-fits g c = made_fits c.args.call c.requires.made
+issue-requires-clause-fits g c = well_made_fits c.args.call c.requires.made.made
 
 pub invariant_of-self : goal.invariant_of-self
 invariant_of-self g c =
-    let free = is_free _ _ c.args.client c.index_mut.result.now c.self.view_is c.requires.free c.index_mut.ensures.value in
-    let room = subst (λ (v : SimulationV (Fused g.row.D.Denot)). v.count < EVENTS) (sym c.self.view_is) c.requires.room in
-    (ranged_refused _ _ _ _ _ _ c.self.invariant.0 room _ _ free.at.place c.issue.new.self c.in_err-request.ensures.err, c.self.invariant.1, c.self.invariant.2)
+    let at = called c.self.view_is is_idle c.args.client c.index_mut.result.now c.self.invariant.0 c.requires.room refl c.requires.free c.index_mut.ensures.value in
+    (stayed_ranged at c.issue.new.self c.in_err-request.ensures.err, c.self.invariant.1, c.self.invariant.2)
 
 pub invariant_of-self-2 : goal.invariant_of-self-2
 invariant_of-self-2 g c =
-    let free = is_free _ _ c.args.client c.index_mut.result.now c.self.view_is c.requires.free c.index_mut.ensures.value in
-    let room = subst (λ (v : SimulationV (Fused g.row.D.Denot)). v.count < EVENTS) (sym c.self.view_is) c.requires.room in (
-      ranged_issued _ _ _ _ _ _ c.self.invariant.0 room _ _ free.at.place c.args.call c.issue.new.self c.in_ok-request.request c.send.new.sent _ _ c.send.result c.requires.made c.in_ok-request.ensures.client c.in_ok-request.ensures.ok c.send.ensures,
-      c.self.invariant.1,
-      c.self.invariant.2,
-    )
+    let at = called c.self.view_is is_idle c.args.client c.index_mut.result.now c.self.invariant.0 c.requires.room refl c.requires.free c.index_mut.ensures.value in
+    let s = issuing at c.args.call c.issue.new.self c.in_ok-request.request c.requires.made c.in_ok-request.ensures.client c.in_ok-request.ensures.ok in
+    (send_ranged c.self.view_is s c.send.result c.send.new.sent _ c.send.ensures, c.self.invariant.1, c.self.invariant.2)
 
 pub returns-clause-place : goal.returns-clause-place
-returns-clause-place g c = send_place _ _ c.send.new.sent _ _ c.send.result c.in_ok-request.request c.self.view_is c.send.ensures
+returns-clause-place g c =
+    let at = called c.self.view_is is_idle c.args.client c.index_mut.result.now c.self.invariant.0 c.requires.room refl c.requires.free c.index_mut.ensures.value in
+    let s = issuing at c.args.call c.issue.new.self c.in_ok-request.request c.requires.made c.in_ok-request.ensures.client c.in_ok-request.ensures.ok in
+    send_place c.self.view_is s c.send.result c.send.new.sent _ c.send.ensures
 
 pub returns-clause-request : goal.returns-clause-request
 returns-clause-request g c =
-    let free = is_free _ _ c.args.client c.index_mut.result.now c.self.view_is c.requires.free c.index_mut.ensures.value in
-    let room = subst (λ (v : SimulationV (Fused g.row.D.Denot)). v.count < EVENTS) (sym c.self.view_is) c.requires.room in
-    issue_asks _ _ _ _ _ _ c.self.invariant.0 room c.args.client _ free.at _ c.args.call c.in_ok-request.request c.send.new.sent _ _ c.send.result refl refl c.requires.made c.in_ok-request.ensures.ok c.send.ensures
+    let at = called c.self.view_is is_idle c.args.client c.index_mut.result.now c.self.invariant.0 c.requires.room refl c.requires.free c.index_mut.ensures.value in
+    let s = issuing at c.args.call c.issue.new.self c.in_ok-request.request c.requires.made c.in_ok-request.ensures.client c.in_ok-request.ensures.ok in
+    send_request c.self.view_is s c.send.result c.send.new.sent _ c.send.ensures
+
+pub returns-clause-after : goal.returns-clause-after
+returns-clause-after g c =
+    let at = called c.self.view_is is_idle c.args.client c.index_mut.result.now c.self.invariant.0 c.requires.room refl c.requires.free c.index_mut.ensures.value in
+    let s = issuing at c.args.call c.issue.new.self c.in_ok-request.request c.requires.made c.in_ok-request.ensures.client c.in_ok-request.ensures.ok in
+    send_after c.self.view_is s c.send.result c.send.new.sent _ c.send.ensures (λ v. issued_by v c.args.client c.args.call) (issued_is at c.args.call c.issue.new.self c.in_ok-request.request c.in_ok-request.ensures.client c.in_ok-request.ensures.ok)
 
 pub returns-clause-ok : goal.returns-clause-ok
 returns-clause-ok g c =
-    let free = is_free _ _ c.args.client c.index_mut.result.now c.self.view_is c.requires.free c.index_mut.ensures.value in
-    let few = few_calls _ _ _ _ _ _ c.self.invariant.0 _ _ free.at.place in
-    issue_done (seen_by g.D.Disk.seen) (images_by g.D.Disk.images) _ _ c.self.view_is c.args.client _ free.at few c.args.call c.issue.new.self c.in_ok-request.request c.send.new.sent _ c.send.result free.idle c.requires.served c.in_ok-request.ensures.client c.in_ok-request.ensures.ok c.send.ensures
-
-pub index_mut-requires : goal.index_mut-requires
-index_mut-requires g c = let low = seat_below _ _ c.self.view_is c.args.client is_idle refl c.requires.free in omega (arith, low)
+    happens_after (seen_by g.D.Disk.seen) (images_by g.D.Disk.images) c.args.self.now _ _ (Issue c.args.client c.args.call) c.send.result (returns-clause-after g c)
+    (issued_happens (seen_by g.D.Disk.seen) (images_by g.D.Disk.images) c.args.self.now c.args.client (numbers_at c.args.self.now (in_range c.self.view_is c.self.invariant.0) c.args.client) c.args.call c.requires.free c.requires.served)

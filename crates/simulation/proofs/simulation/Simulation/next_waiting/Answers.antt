@@ -16,4 +16,4 @@ pub returns-clause-first : goal.returns-clause-first
 returns-clause-first g c = all_due _ c.args.self.now c.loop-server.server c.loop-server.first c.self.view_is c.loop-server.auto.server-end c.loop-server-test.false c.loop-server.invariant
 
 pub returns-clause-stores : goal.returns-clause-stores
-returns-clause-stores g c = subst (λ (v : SimulationV (Fused g.row.D.Denot)). length v.stores ≡ v.setup.servers) c.self.view_is c.self.invariant.0.stores'
+returns-clause-stores g c = subst (λ (v : SimulationV (Fused g.row.D.Denot)). length v.stores ≡ v.setup.servers) c.self.view_is c.self.invariant.0.stores'.all

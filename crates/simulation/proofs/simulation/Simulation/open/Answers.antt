@@ -3,7 +3,7 @@ use Rattle.std.specs.FinSet as set
 use Rattle.mds_out.specs.Fused.{Fused}
 use Rattle.records.specs.declared.msg.Msg.{Msg}
 use Rattle.simulation.specs.Openings.{IsUpOn}
-use Rattle.simulation.specs.Ranges.{AreRanges}
+use Rattle.simulation.specs.Ranges.{IsRanged}
 use Rattle.simulation.specs.Shows.{SimulationV, waiting_cmp}
 use Rattle.simulation.proofs.Begins.{opens_from}
 use Rattle.simulation.proofs.Refusals.{are_reached_still}
@@ -16,7 +16,7 @@ pub invariant_of-result : goal.invariant_of-result
 invariant_of-result g c =
     let d = g.D.Disk in
     let x = c.in-Ok-bring_up_all in (
-      subst (λ (sent : List Msg). AreRanges c.args.setup 0 0 x.stores.items c.in-Ok.clients.items sent) (sym c.new.ensures)
+      subst (λ (sent : List Msg). IsRanged c.args.setup 0 0 x.stores.items c.in-Ok.clients.items sent) (sym c.new.ensures)
           (fresh_ranges d.seen d.images c.args.setup c.args.disks.items x.stores.items c.in-Ok.clients.items c.requires.setup c.requires.disks x.ensures.up c.in-Ok.ensures),
       x.ensures.room.0,
       x.ensures.room.1,

@@ -1,44 +1,43 @@
-use Rattle.std.proofs.Common.{◌∙◌, sym, ap, subst, get_or, ◌<◌}
-use Rattle.mds_base.specs.declared.limits.TheConstants.{EVENTS}
-use Rattle.mds_out.specs.Fused.{Fused}
+use Rattle.std.proofs.Common.{sym, refl, subst, is_some}
 use Rattle.simulation.specs.Fuses.{seen_by, images_by}
-use Rattle.simulation.specs.Shows.{SimulationV}
-use Rattle.simulation.proofs.Carried.{is_numbered, is_meant, few_calls, has_room_at, ranged_refused, ranged_taken, take_said, take_done}
+use Rattle.simulation.specs.Shows.{Happens}
+use Rattle.world.specs.declared.event.Event.TheVariants.{Take}
+use Rattle.simulation.proofs.ClientStep.{called, is_numbered, left, numbers_at, stayed_ranged, took_ranged, took_said, took_after}
+use Rattle.simulation.proofs.Ranged.{in_range}
+use Rattle.simulation.proofs.Taking.{taken_happens}
 use Rattle.simulation.proofs.simulation.Simulation.take.Goals as goal
 
 pub take-requires : goal.take-requires
 take-requires g c =
-    let at = is_numbered _ _ c.args.client c.index_mut.result.now c.self.view_is c.requires.client c.self.invariant.0.clients' c.index_mut.ensures.value in
-    has_room_at _ _ _ _ _ _ c.self.invariant.0 _ _ at.place
+    let at = called c.self.view_is is_some c.args.client c.index_mut.result.now c.self.invariant.0 c.requires.room refl (is_numbered c.self.view_is c.args.client c.requires.client c.self.invariant.0) c.index_mut.ensures.value in
+    (left at).1
 
 pub invariant_of-self : goal.invariant_of-self
 invariant_of-self g c =
-    let at = is_numbered _ _ c.args.client c.index_mut.result.now c.self.view_is c.requires.client c.self.invariant.0.clients' c.index_mut.ensures.value in
-    let room = subst (λ (v : SimulationV (Fused g.row.D.Denot)). v.count < EVENTS) (sym c.self.view_is) c.requires.room in
-    (ranged_refused _ _ _ _ _ _ c.self.invariant.0 room _ _ at.place c.take.new.self c.in_err-taken.ensures.err, c.self.invariant.1, c.self.invariant.2)
+    let at = called c.self.view_is is_some c.args.client c.index_mut.result.now c.self.invariant.0 c.requires.room refl (is_numbered c.self.view_is c.args.client c.requires.client c.self.invariant.0) c.index_mut.ensures.value in
+    (stayed_ranged at c.take.new.self c.in_err-taken.ensures.err, c.self.invariant.1, c.self.invariant.2)
 
 pub invariant_of-self-in_err-note_taken : goal.invariant_of-self-in_err-note_taken
 invariant_of-self-in_err-note_taken g c =
-    let at = is_numbered _ _ c.args.client c.index_mut.result.now c.self.view_is c.requires.client c.self.invariant.0.clients' c.index_mut.ensures.value in
-    let room = subst (λ (v : SimulationV (Fused g.row.D.Denot)). v.count < EVENTS) (sym c.self.view_is) c.requires.room in
-    (ranged_taken _ _ _ _ _ _ c.self.invariant.0 room _ _ at.place c.take.new.self _ c.in_ok-taken.ensures.ok.client', c.self.invariant.1, c.self.invariant.2)
+    let at = called c.self.view_is is_some c.args.client c.index_mut.result.now c.self.invariant.0 c.requires.room refl (is_numbered c.self.view_is c.args.client c.requires.client c.self.invariant.0) c.index_mut.ensures.value in
+    (took_ranged c.self.view_is at c.args.place c.in-Some.msg.now (sym c.in-Some.ensures) c.take.new.self c.in_ok-taken.taken c.in_ok-taken.ensures.ok, c.self.invariant.1, c.self.invariant.2)
 
 pub invariant_of-self-2 : goal.invariant_of-self-2
 invariant_of-self-2 g c =
-    let at = is_numbered _ _ c.args.client c.index_mut.result.now c.self.view_is c.requires.client c.self.invariant.0.clients' c.index_mut.ensures.value in
-    let room = subst (λ (v : SimulationV (Fused g.row.D.Denot)). v.count < EVENTS) (sym c.self.view_is) c.requires.room in
-    (ranged_taken _ _ _ _ _ _ c.self.invariant.0 room _ _ at.place c.take.new.self _ c.in_ok-taken.ensures.ok.client', c.self.invariant.1, c.self.invariant.2)
+    let at = called c.self.view_is is_some c.args.client c.index_mut.result.now c.self.invariant.0 c.requires.room refl (is_numbered c.self.view_is c.args.client c.requires.client c.self.invariant.0) c.index_mut.ensures.value in
+    (took_ranged c.self.view_is at c.args.place c.in-Some.msg.now (sym c.in-Some.ensures) c.take.new.self c.in_ok-taken.taken c.in_ok-taken.ensures.ok, c.self.invariant.1, c.self.invariant.2)
 
 pub returns-clause-taken : goal.returns-clause-taken
 returns-clause-taken g c =
-    let at = is_numbered _ _ c.args.client c.index_mut.result.now c.self.view_is c.requires.client c.self.invariant.0.clients' c.index_mut.ensures.value in
-    let there = is_meant _ _ c.args.place c.args.client c.index-messages-place.result c.self.view_is c.requires.message (c.index-messages-place.is ∙ ap (λ l. get_or l c.args.place c.index-messages-place.result) c.messages.ensures) in
-    take_said _ _ c.self.view_is c.args.client c.args.place _ _ at there c.in_ok-taken.taken c.in_ok-taken.ensures.ok.taken'
+    let at = called c.self.view_is is_some c.args.client c.index_mut.result.now c.self.invariant.0 c.requires.room refl (is_numbered c.self.view_is c.args.client c.requires.client c.self.invariant.0) c.index_mut.ensures.value in
+    took_said c.self.view_is at c.args.place c.in-Some.msg.now (sym c.in-Some.ensures) c.take.new.self c.in_ok-taken.taken c.in_ok-taken.ensures.ok
+
+pub returns-clause-after : goal.returns-clause-after
+returns-clause-after g c =
+    let at = called c.self.view_is is_some c.args.client c.index_mut.result.now c.self.invariant.0 c.requires.room refl (is_numbered c.self.view_is c.args.client c.requires.client c.self.invariant.0) c.index_mut.ensures.value in
+    took_after c.self.view_is at c.args.place c.in-Some.msg.now (sym c.in-Some.ensures) c.take.new.self c.in_ok-taken.taken c.in_ok-taken.ensures.ok _ c.in_ok-note_taken.ensures
 
 pub returns-clause-ok : goal.returns-clause-ok
 returns-clause-ok g c =
-    let at = is_numbered _ _ c.args.client c.index_mut.result.now c.self.view_is c.requires.client c.self.invariant.0.clients' c.index_mut.ensures.value in
-    let there = is_meant _ _ c.args.place c.args.client c.index-messages-place.result c.self.view_is c.requires.message (c.index-messages-place.is ∙ ap (λ l. get_or l c.args.place c.index-messages-place.result) c.messages.ensures) in
-    let few = few_calls _ _ _ _ _ _ c.self.invariant.0 _ _ at.place in
-    let open_room = has_room_at _ _ _ _ _ _ c.self.invariant.0 _ _ at.place in
-    take_done _ _ c.self.view_is c.args.client c.args.place _ _ at there (seen_by g.D.Disk.seen) (images_by g.D.Disk.images) c.take.new.self _ c.in_ok-taken.taken few open_room c.in_ok-taken.ensures.ok.taken' c.in_ok-taken.ensures.ok.client' c.in_ok-note_taken.ensures
+    subst (λ n. Happens (seen_by g.D.Disk.seen) (images_by g.D.Disk.images) c.args.self.now n (Take c.args.client c.args.place)) (sym (returns-clause-after g c))
+    (taken_happens (seen_by g.D.Disk.seen) (images_by g.D.Disk.images) c.args.self.now c.args.client (numbers_at c.args.self.now (in_range c.self.view_is c.self.invariant.0) c.args.client) c.args.place (is_numbered c.self.view_is c.args.client c.requires.client c.self.invariant.0) c.requires.message)

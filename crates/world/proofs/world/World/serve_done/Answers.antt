@@ -1,15 +1,15 @@
-use Rattle.std.proofs.Common.{◌∙◌, ap}
-use Rattle.world.specs.Worlds.{WorldV}
+use Rattle.std.proofs.Common.{◌∙◌, sym, ap}
+use Rattle.std.specs.Option.{option_copied}
 use Rattle.world.proofs.Stepped.{done_is}
 use Rattle.world.proofs.Within.{done_ranges}
 use Rattle.world.proofs.world.World.serve_done.Goals as goal
 
 pub invariant_of-self-2 : goal.invariant_of-self-2
 invariant_of-self-2 c =
-    done_ranges _ c.args.self.now c.self.view_is c.self.invariant c.args.server c.index_mut-state.result.now c.index_mut-state.ensures.value c.requires.can c.serve.new.self c.serve.ensures.doubt c.index-messages-place.result
+    done_ranges _ c.args.self.now c.self.view_is c.self.invariant c.args.server c.index_mut-state.result.now c.index_mut-state.ensures.value c.requires.can c.serve.new.self c.serve.ensures.doubt c.unwrap-msg.result.now
     c.in_ok-outputs.outputs c.append.new.self c.in_ok-outputs.ensures.outputs c.in_ok-append.ensures.ok
 
 pub returns : goal.returns
 returns c =
-    done_is _ c.args.self.now c.self.view_is c.args.server c.index_mut-state.result.now c.index_mut-state.ensures.value c.args.place c.index-messages-place.result c.requires.can c.requires.is_for c.messages.result.now
-    (c.messages.ensures ∙ ap (λ (x : WorldV). x.sent) c.self.view_is) c.index-messages-place.is c.serve.new.self c.in_ok-outputs.outputs c.append.new.self c.in_ok-outputs.ensures.outputs c.in_ok-outputs.ensures.ok c.in_ok-append.ensures.ok
+    done_is _ c.args.self.now c.self.view_is c.args.server c.index_mut-state.result.now c.index_mut-state.ensures.value c.args.place c.unwrap-msg.result.now
+    (sym c.msg_at.ensures ∙ ap option_copied c.unwrap-msg.ensures) c.requires.can c.serve.new.self c.in_ok-outputs.outputs c.append.new.self c.in_ok-outputs.ensures.outputs c.in_ok-outputs.ensures.ok c.in_ok-append.ensures.ok
