@@ -4,6 +4,8 @@
 
 mod damages;
 mod merges;
+mod roots;
+mod store;
 mod tables;
 
 use row_words::{Answer, RowFault, Table, Words, print};
@@ -21,6 +23,8 @@ impl Table for Calls {
     fn answer(alloc: Global, mut words: Words<'_>) -> Answer {
         match words.word()? {
             "sorted_table" | "merge_rows" => tables::answer(alloc, words),
+            "root_slots" => roots::answer(alloc, words),
+            "row_store" => store::answer(alloc, words),
             _ => Err(RowFault::NotARow),
         }
     }

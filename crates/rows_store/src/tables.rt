@@ -48,7 +48,7 @@ fn run(alloc: Global, mut words: Words<'_>) -> Answer {
 
 /// `make FILE COUNT ROW..` and `fill FILE FROM TO NAME SIZE`; `open FILE`, `get FILE REV NAME`, `seek FILE REV NAME` and
 /// `damages FILE`, each of which opens the table; `merge FILE BLOCKS TURNS TABLE,..`; and the actions of a disk.
-fn act_on<D: Disk>(alloc: Global, disk: &mut Fuse<D>, words: Words<'_>) -> Answer {
+pub(crate) fn act_on<D: Disk>(alloc: Global, disk: &mut Fuse<D>, words: Words<'_>) -> Answer {
     let mut rest = words;
     match rest.word()? {
         "make" => make(alloc, disk, rest),
@@ -110,7 +110,7 @@ fn fill<D: Disk>(alloc: Global, disk: &mut D, mut words: Words<'_>) -> Answer {
 }
 
 /// A reversed hash and a name, in partition 0 of directory 1.
-fn key_of(alloc: Global, words: &mut Words<'_>) -> Result<RowKey, RowFault> {
+pub(crate) fn key_of(alloc: Global, words: &mut Words<'_>) -> Result<RowKey, RowFault> {
     Ok(RowKey {
         dir: 1,
         part: 0,
@@ -120,7 +120,7 @@ fn key_of(alloc: Global, words: &mut Words<'_>) -> Result<RowKey, RowFault> {
 }
 
 /// A size, or `tomb`.
-fn attr_of(words: &mut Words<'_>) -> Result<Option<Attr>, RowFault>
+pub(crate) fn attr_of(words: &mut Words<'_>) -> Result<Option<Attr>, RowFault>
     ensures { IfOk result IsMarked }
 {
     let mut size = *words;

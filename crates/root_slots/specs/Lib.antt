@@ -1,0 +1,4 @@
+pub mod Root
+pub mod Slot
+pub mod Slots
+pub mod Crash

@@ -1,0 +1,5 @@
+pub mod Rows
+pub mod Store
+pub mod Damages
+pub mod Answers
+pub mod Value
