@@ -4,8 +4,8 @@
 //! calls leaves of other files, on the frames of `frame_pool`, and on the kit's `md5`. A `Builder` writes rows, given
 //! in rising order, into blocks of 4096 bytes; a `Table` keeps the first key of each block and reads a block into a
 //! frame where it is asked for a key, or for its rows. Its one contract: what a table answers is what the list of its
-//! rows answers, and `open_file` gives a table exactly of a file whose sum agrees and that spells one. `docs/FORMATS.md`
-//! has the file byte by byte, and `crates/sorted_table/README.md` is its page.
+//! rows answers, and `open_file` gives a table exactly of a file whose sum agrees and that spells one.
+//! `docs/FORMATS.md` has the file byte by byte, and `crates/sorted_table/README.md` is its page.
 #![tactic(auto)]
 
 mod block;
