@@ -55,8 +55,8 @@ impl Merge {
     }
 
     /// Goes on by so many blocks, or to the end: then the table of all rows stands in the file of the merge, of each
-    /// key the newest row, without tombstones, and every crash leaves it. Tables, newest first, are those that the merge
-    /// was started with. After a refusal the file is of no use, and the tables are as they were.
+    /// key the newest row, without tombstones, and every crash leaves it. Tables, newest first, are those that the
+    /// merge was started with. After a refusal the file is of no use, and the tables are as they were.
     pub fn turn<D: Disk>(
         mut self,
         alloc: Global,

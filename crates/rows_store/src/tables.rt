@@ -46,8 +46,8 @@ fn run(alloc: Global, mut words: Words<'_>) -> Answer {
     Ok(out)
 }
 
-/// `make FILE COUNT ROW..` and `fill FILE FROM TO NAME SIZE`; `open FILE`, `get FILE REV NAME`, `seek FILE REV NAME` and
-/// `damages FILE`, each of which opens the table; `merge FILE BLOCKS TURNS TABLE,..`; and the actions of a disk.
+/// `make FILE COUNT ROW..` and `fill FILE FROM TO NAME SIZE`; `open FILE`, `get FILE REV NAME`, `seek FILE REV NAME`
+/// and `damages FILE`, each of which opens the table; `merge FILE BLOCKS TURNS TABLE,..`; and the actions of a disk.
 pub(crate) fn act_on<D: Disk>(alloc: Global, disk: &mut Fuse<D>, words: Words<'_>) -> Answer {
     let mut rest = words;
     match rest.word()? {
