@@ -26,7 +26,8 @@ rest_same file files image other same k named below at = same (suc k) named (ome
 first_same : (file : ℕ) (files : List ℕ) (image other : Image) → AreSameIn (file ∷ files) image other → other file ≡ image file
 first_same file files image other same = same zero file (omega arith) refl
 
-has_table : (table : TableState) (rows : List TableRow) (file : List ℕ) → HasRows table rows file → HoldsTable rows file
+-- an open table's file is a table
+pub has_table : (table : TableState) (rows : List TableRow) (file : List ℕ) → HasRows table rows file → HoldsTable rows file
 has_table table rows file has = record { blocks = has.blocks; are = has.are; rows_are = has.rows_are; bytes = has.bytes_are }
 
 pub tables_hold : (tables : List TableState) (rows : List (List TableRow)) (image other : Image) → HaveRows tables rows image → AreSameIn (files_of_tables tables) image other → HoldTables (files_of_tables tables) rows other

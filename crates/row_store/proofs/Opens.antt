@@ -37,7 +37,7 @@ use Rattle.row_store.specs.declared.row_store.RowStore.{RowStore}
 use Rattle.row_store.specs.Rows.{rows_under, laid_over, rows_of}
 use Rattle.row_store.specs.Store.{Kept, TellsAll, reading, base_of}
 use Rattle.row_store.specs.Value.{IsNewStore, KeepsBy, Keeps, IsAsNamed, IsForceReady, IsReady, HaveRows, IsOpenOn, IsStateThere, IsTableOpen, AreOpen, AreReady, IsLogReady}
-use Rattle.row_store.proofs.Keeping.{AreSameIn, files_of_tables}
+use Rattle.row_store.proofs.Keeping.{AreSameIn, files_of_tables, has_table}
 use Rattle.row_store.proofs.Appends.{log_left}
 use Rattle.row_store.proofs.Told.{ready_on, told_is}
 use Rattle.sorted_table.specs.Answers as answers
@@ -101,7 +101,7 @@ pub are_tables : (opened : List TableState) (seen : Contents) (sizes : Lengths) 
 are_tables [] seen sizes images tells are = tt
 are_tables (t ∷ opened) seen sizes images tells are =
     let here = some_table t (seen t.file) (tells t.file) are.0.ready.told in
-    ((here.rows, record { blocks = here.has.blocks; are = here.has.are; rows_are = here.has.rows_are; bytes = here.has.bytes_are }), are_tables opened seen sizes images tells are.1)
+    ((here.rows, has_table t here.rows (reading seen t.file) here.has), are_tables opened seen sizes images tells are.1)
 
 -- the store that a disk has under a root
 pub some_kept : (root : Root) (state : LogState) (opened : List TableState) (seen : Contents) (sizes : Lengths) (images : Image → Type 0) → TellsAll seen → OnTold (seen 0) (λ file. root_in file ≡ Some root)
@@ -229,7 +229,7 @@ later_bad t first files seen seen' sizes' images' file place wrong same there op
     let P : Contents → Type 0 = λ s. TellsAll s → IsFirstBad (first ∷ files) file place wrong (reading s) in
     subst P same (λ tells. (
     let here = some_table t (seen' t.file) (tells t.file) opened.ready.told in
-    let table_is : IsTable (reading seen' t.file) = (here.rows, record { blocks = here.has.blocks; are = here.has.are; rows_are = here.has.rows_are; bytes = here.has.bytes_are }) in
+    let table_is : IsTable (reading seen' t.file) = (here.rows, has_table t here.rows (reading seen' t.file) here.has) in
     inr (subst (λ (f : ℕ). IsTable (reading seen' f)) there table_is, is tells)))
 
 pub more_refused : {T : Type 0} (t : TableState) (first : ℕ) (rest files : List ℕ) (seen seen' : Contents) (sizes' : Lengths) (images' : Image → Type 0) (result : Result T StoreFault) → files ≡ first ∷ rest → seen' ≡ seen → t.file ≡ first

@@ -130,6 +130,7 @@ impl RowStore {
     /// Whether the disk had no open slot, and no flush was made since.
     pub fn is_new(&self) -> bool
         ensures new { IsTrue result ↔ IsNew self.now }
+        ensures root { result ≡ false → HasRoot self.now }
         ensures kept { (kept : Option Kept) → (rows : RowMap) → (image : Image) → Keeps self.now kept rows image → IsTrue result ↔ (kept ≡ None) }
     {
         self.force.is_none()
