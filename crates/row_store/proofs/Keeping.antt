@@ -28,7 +28,7 @@ first_same file files image other same = same zero file (omega arith) refl
 
 -- an open table's file is a table
 pub has_table : (table : TableState) (rows : List TableRow) (file : List ℕ) → HasRows table rows file → HoldsTable rows file
-has_table table rows file has = record { blocks = has.blocks; are = has.are; rows_are = has.rows_are; bytes = has.bytes_are }
+has_table table rows file has = record { blocks = has.blocks; are = has.has.are; rows_are = has.rows_are; bytes = has.has.bytes_are }
 
 pub tables_hold : (tables : List TableState) (rows : List (List TableRow)) (image other : Image) → HaveRows tables rows image → AreSameIn (files_of_tables tables) image other → HoldTables (files_of_tables tables) rows other
 tables_hold [] [] image other have same = tt
