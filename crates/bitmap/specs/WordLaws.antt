@@ -1,11 +1,14 @@
 -- Words and the sets that they spell: the laws by which a bitmap gives its words back.
-use Rattle.std.proofs.Common.{◌≡◌, ℕ, zero, suc, ◌+◌, ◌-◌, ◌*◌, ◌/◌, ◌%◌, ◌^◌, ◌<◌, ◌⊎◌, ◌==◌, ◌&&◌, ◌||◌, nat_eq, nat_lt, inl, inr, Bool, true, false, IsTrue, cond, List, map, slice_index, sym, refl, ap, ◌∙◌, arith, pow-suc}
+use Rattle.std.proofs.Common.{◌≡◌, ℕ, zero, suc, ◌+◌, ◌-◌, ◌*◌, ◌/◌, ◌%◌, ◌^◌, ◌<◌, ◌⊎◌, ◌==◌, ◌&&◌, ◌||◌, nat_eq}
+use Rattle.std.proofs.Common.{nat_lt, inl, inr, Bool, true, false, IsTrue, cond, List, map, slice_index, sym, refl, ap}
+use Rattle.std.proofs.Common.{◌∙◌, arith, pow-suc}
 use Rattle.std.proofs.Math.Path.{fun_ext}
 use Rattle.std.specs.FinSet as set
 use Rattle.std.specs.List.{range_with_len}
 use Rattle.std.specs.Ordering.{nat_cmp}
 use Rattle.std.specs.Int.{bit_at}
-use Rattle.std.proofs.lemmas.Bool.{cases_Bool, cases_lt, cases_eq, lt-ltb, le-ltb, ltb-true, eq-eqb, ne_eqb, and_parts, and_from}
+use Rattle.std.proofs.lemmas.Bool.{cases_Bool, cases_lt, cases_eq, lt-ltb, le-ltb, ltb-true, eq-eqb, ne_eqb, and_parts}
+use Rattle.std.proofs.lemmas.Bool.{and_from}
 use Rattle.std.proofs.lemmas.List.{ext_get_or}
 use Rattle.std.proofs.lemmas.List.FromFn.{get_or-map-range_with_len, length-map-range_with_len}
 use Rattle.std.proofs.lemmas.Nat.{div-mul-add, mod-mul-add}
@@ -57,15 +60,18 @@ without_is t n i unset =
 
 pub has_passing : (t : ℕ → Bool) (n i : ℕ) → has (passing t n) i ≡ (nat_lt i n && t i)
 has_passing t zero i =
-    ap (λ (s : Bits). has s i) (passing_none t) ∙ (set.contains-empty nat_cmp i ∙ ap (λ b. b && t i) (sym (le-ltb i 0 (omega arith))))
+    ap (λ (s : Bits). has s i) (passing_none t)
+    ∙ (set.contains-empty nat_cmp i ∙ ap (λ b. b && t i) (sym (le-ltb i 0 (omega arith))))
 has_passing t (suc n) i =
     elim (cases_Bool (t n)) [
       | inl yet ↦
-          ap (λ (s : Bits). has s i) (passing_more t n ∙ ap (λ b. cond b (set.insert (passing t n) n) (passing t n)) yet)
+          ap (λ (s : Bits). has s i)
+          (passing_more t n ∙ ap (λ b. cond b (set.insert (passing t n) n) (passing t n)) yet)
           ∙ (ap (λ (f : ℕ → Bool). f i) (has_with (passing t n) n)
           ∙ (ap (λ b. (i == n) || b) (has_passing t n i) ∙ with_is t n i yet))
       | inr unset ↦
-          ap (λ (s : Bits). has s i) (passing_more t n ∙ ap (λ b. cond b (set.insert (passing t n) n) (passing t n)) unset)
+          ap (λ (s : Bits). has s i)
+          (passing_more t n ∙ ap (λ b. cond b (set.insert (passing t n) n) (passing t n)) unset)
           ∙ (has_passing t n i ∙ without_is t n i unset)
     ]
 
@@ -104,7 +110,9 @@ number_more t n = refl
 digit : Bool → ℕ
 digit b = cond b 1 0
 
-number_step : (t : ℕ → Bool) (n : ℕ) → ((t n ≡ true) × (number_of t (suc n) ≡ 1 * 2 ^ n + number_of t n)) ⊎ ((t n ≡ false) × (number_of t (suc n) ≡ 0 * 2 ^ n + number_of t n))
+number_step : (t : ℕ → Bool) (n : ℕ)
+    → ((t n ≡ true) × (number_of t (suc n) ≡ 1 * 2 ^ n + number_of t n))
+    ⊎ ((t n ≡ false) × (number_of t (suc n) ≡ 0 * 2 ^ n + number_of t n))
 number_step t n =
     elim (cases_Bool (t n)) [
       | inl e ↦ inl (e, number_more t n ∙ (ap (λ b. cond b (number_of t n + 2 ^ n) (number_of t n)) e ∙ omega arith))
@@ -149,7 +157,8 @@ word_digit zero lt = refl
 word_digit (suc zero) lt = refl
 word_digit (suc (suc x)) lt = absurd (omega arith)
 
-pub place_bit : (words : List ℕ) (k i : ℕ) → k < word_count → i < word_bits → bit_of words (k * word_bits + i) ≡ (bit_at (slice_index words k) i == 1)
+pub place_bit : (words : List ℕ) (k i : ℕ) → k < word_count → i < word_bits
+    → bit_of words (k * word_bits + i) ≡ (bit_at (slice_index words k) i == 1)
 unfolding bit_of
 place_bit words k i row low =
     ap (λ b. b && (bit_at (slice_index words ((k * word_bits + i) / word_bits)) ((k * word_bits + i) % word_bits) == 1))
@@ -157,7 +166,8 @@ place_bit words k i row low =
     ∙ (ap (λ j. bit_at (slice_index words j) ((k * word_bits + i) % word_bits) == 1) (div-mul-add k word_bits i low)
     ∙ ap (λ j. bit_at (slice_index words k) j == 1) (mod-mul-add k word_bits i low))
 
-words_at : (bits : Bits) → words_of bits ≡ map (λ k. number_of (λ i. has bits (k * word_bits + i)) word_bits) (range_with_len 0 word_count)
+words_at : (bits : Bits)
+    → words_of bits ≡ map (λ k. number_of (λ i. has bits (k * word_bits + i)) word_bits) (range_with_len 0 word_count)
 unfolding words_of
 words_at bits = refl
 
@@ -166,11 +176,13 @@ words_back words whole =
     let bits = set_of words in
     let f = λ (k : ℕ). number_of (λ i. has bits (k * word_bits + i)) word_bits in
     words_at bits
-    ∙ ext_get_or 0 (map f (range_with_len 0 word_count)) words (length-map-range_with_len f 0 word_count ∙ sym whole.count)
+    ∙ ext_get_or 0 (map f (range_with_len 0 word_count)) words
+    (length-map-range_with_len f 0 word_count ∙ sym whole.count)
     (λ k lt.
     let row : k < word_count = omega (arith, length-map-range_with_len f 0 word_count) in
     get_or-map-range_with_len f 0 word_count k k 0 row (omega arith)
-    ∙ same_from_bits_below word_bits (f k) (slice_index words k) (number_below (λ i. has bits (k * word_bits + i)) word_bits) (whole.words_fit k)
+    ∙ same_from_bits_below word_bits (f k) (slice_index words k)
+    (number_below (λ i. has bits (k * word_bits + i)) word_bits) (whole.words_fit k)
     (λ i low.
     bit_at_number (λ i. has bits (k * word_bits + i)) word_bits i low
     ∙ (ap (λ b. cond b 1 0) (has_set_at words (k * word_bits + i) ∙ place_bit words k i row low)
@@ -185,7 +197,8 @@ one_answer true q f g = sym (f refl)
 one_answer false true f g = g refl
 one_answer false false f g = refl
 
-pub words_test : (v w : List ℕ) (a b : Bits) → set_of v ≡ a → set_of w ≡ b → IsWhole v → IsWhole w → pointwise nat_eq v w ≡ is_same a b
+pub words_test : (v w : List ℕ) (a b : Bits) → set_of v ≡ a → set_of w ≡ b → IsWhole v → IsWhole w
+    → pointwise nat_eq v w ≡ is_same a b
 words_test v w a b va wb whole_v whole_w =
     let decides = bytes_decides v w in
     one_answer (pointwise nat_eq v w) (is_same a b)

@@ -1,4 +1,5 @@
-ghost use Rattle.std.specs.Prelude.{◌≡◌, ℕ, suc, ◌+◌, ◌%◌, ◌^◌, ◌<◌, ◌≤◌, ◌↔◌, IsTrue, IsOk, IfOk, OnOk, IfErr, OnErr, false};
+ghost use Rattle.std.specs.Prelude.{◌≡◌, ℕ, suc, ◌+◌, ◌%◌, ◌^◌, ◌<◌, ◌≤◌, ◌↔◌, IsTrue, IsOk, IfOk, OnOk, IfErr, OnErr};
+ghost use Rattle.std.specs.Prelude.{false};
 ghost use Rattle.std.specs.FinSet as set;
 ghost use Rattle.chains.specs.Chain.{OnChain};
 ghost use Rattle.chains.specs.WellFormed.{IsWellFormed, IsLeastMissing};
@@ -18,7 +19,7 @@ use mds_base::RADIX;
 use std::marker::Model;
 
 /// Which partitions of a directory exist, as far as the holder knows: a well-formed set of numbers below
-/// `2 ^ RADIX` (`docs/DEFINITIONS.md`, "Well-formed bitmap").
+/// `2 ^ RADIX` (`crates/chains/README.md`, "Well-formed bitmap").
 #[derive(Debug, Clone, Copy)]
 pub struct Bitmap {
     words: [u64; WORDS],
@@ -123,7 +124,7 @@ impl Bitmap {
         join(&mut self.words, &other.words);
     }
 
-    /// The partition at which a hash is located, in time by the chain's length (`docs/DEFINITIONS.md`, "Locate").
+    /// The partition at which a hash is located, in time by the chain's length (`crates/chains/README.md`, "Locate").
     pub fn locate(&self, hash: u64) -> u32
         ensures value { result ≡ located RADIX hash (has self.now) }
         ensures greatest { IsLocated RADIX hash (has self.now) result }
@@ -133,7 +134,7 @@ impl Bitmap {
         locate_in(&self.words, hash)
     }
 
-    /// How deep a partition that exists is split, in time by the radix (`docs/DEFINITIONS.md`, "Depth and range").
+    /// How deep a partition that exists is split, in time by the radix (`crates/chains/README.md`, "Depth and range").
     pub fn depth(&self, part: u32) -> u32
         requires { IsTrue (has self.now part) }
         ensures value { result ≡ depth_of RADIX part (has self.now) }
@@ -142,7 +143,7 @@ impl Bitmap {
         depth_in(&self.words, part)
     }
 
-    /// The range of a partition that exists, in reversed hashes (`docs/DEFINITIONS.md`, "Depth and range").
+    /// The range of a partition that exists, in reversed hashes (`crates/chains/README.md`, "Depth and range").
     pub fn range_of(&self, part: u32) -> Span
         requires { IsTrue (has self.now part) }
         ensures value { result ≡ range_of RADIX self.now part }

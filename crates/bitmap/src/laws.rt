@@ -4,7 +4,7 @@ ghost use Rattle.chains.specs.WellFormed.{with_number, union_of};
 ghost use Rattle.bitmap.specs.Bits.{Bits, has, is_same};
 ghost use Rattle.bitmap.specs.Words.{IsWhole, bit_of, set_of, words_of};
 
-/// The laws of bitmaps as finite sets (`docs/DEFINITIONS.md`, "Well-formed bitmap"): the sets that calls make, as
+/// The laws of bitmaps as finite sets (`crates/chains/README.md`, "Well-formed bitmap"): the sets that calls make, as
 /// tests of numbers, and the words that spell a set.
 pub fn laws_of_bitmaps()
     ensures zero { has (set.insert set.empty 0) ≡ (λ i. i == 0) }

@@ -1,4 +1,4 @@
-/// A range of partitions' hashes, reversed: all places from `first` to `last` (`docs/DEFINITIONS.md`, "Reversed
+/// A range of partitions' hashes, reversed: all places from `first` to `last` (`crates/chains/README.md`, "Reversed
 /// hash").
 #[derive(Debug, Clone, Copy, PartialEq, Eq)]
 pub struct Span {

@@ -15,7 +15,7 @@ use serde_json::Value;
 use std::alloc::{AllocError, Global};
 use std::marker::Model;
 
-/// A subtree that is to be loaded: its objects by their numbers, each with its members (`docs/DEFINITIONS.md`,
+/// A subtree that is to be loaded: its objects by their numbers, each with its members (`crates/bulk/README.md`,
 /// "Objects of a value"). They are numbered from 0 by depth first, each object before its members, and members by the
 /// bytes of their keys.
 #[derive(Debug, Drop)]
@@ -39,8 +39,8 @@ impl Model for Tree {
 }
 
 impl Tree {
-    /// Reads a text as a tree (`docs/DEFINITIONS.md`, "Tree of a text"). It is refused as `BadTree` exactly where it is
-    /// outside the tree grammar, and as `OutOfMemory` where there is no memory for it. Of a key that stands twice in
+    /// Reads a text as a tree (`crates/bulk/README.md`, "Tree of a text"). It is refused as `BadTree` exactly where it
+    /// is outside the tree grammar, and as `OutOfMemory` where there is no memory for it. Of a key that stands twice in
     /// one object the last member counts. The time grows with the length of the text, and the stack with the depth of
     /// a tree, whatever the text is.
     pub fn read(alloc: Global, text: &[u8]) -> Result<Tree, TreeFault>

@@ -1,6 +1,7 @@
 -- The chain of a hash: its remainders modulo the powers of two, from 2 ^ 0 to 2 ^ radix.
 -- Every definition of this crate takes the radix as an argument.
-use Rattle.std.specs.Prelude.{◌≡◌, ℕ, zero, suc, ◌%◌, ◌^◌, ◌<◌, ◌≤◌, ◌==◌, List, [], ◌∷◌, ◌++◌, if◌then◌else◌, MatchOption, Option}
+use Rattle.std.specs.Prelude.{◌≡◌, ℕ, zero, suc, ◌%◌, ◌^◌, ◌<◌, ◌≤◌, ◌==◌, List, [], ◌∷◌, ◌++◌, if◌then◌else◌}
+use Rattle.std.specs.Prelude.{MatchOption, Option}
 
 -- the remainders modulo 2 ^ 0, .., 2 ^ radix, equal ones taken once: a rising list
 unfoldable pub chain_of : ℕ → ℕ → List ℕ

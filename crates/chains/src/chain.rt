@@ -5,7 +5,7 @@ ghost use Rattle.std.specs.List.Sorted.{IsStrictlyIncreasing};
 ghost use Rattle.chains.specs.Chain.{chain_of, OnChain, FollowsOnChain, IsLastOnChain, IsNextOnChain};
 
 /// The element after `part` on the chain of `hash`, of which `part` has to be an element, and None exactly at
-/// the chain's end (`docs/DEFINITIONS.md`, "Chain"). In constant time.
+/// the chain's end (`crates/chains/README.md`, "Chain"). In constant time.
 pub fn chain_next(radix: u32, hash: u64, part: u32) -> Option<u32>
     requires fits { radix ≤ 32 }
     requires on { OnChain radix hash part }
@@ -19,7 +19,7 @@ pub fn chain_next(radix: u32, hash: u64, part: u32) -> Option<u32>
     Some(part + (1 << rest.trailing_zeros()))
 }
 
-/// The laws of chains (`docs/DEFINITIONS.md`, "Chain"), for every radix and hash.
+/// The laws of chains (`crates/chains/README.md`, "Chain"), for every radix and hash.
 pub fn laws_of_chains()
     // The list is the rising list of the remainders, and so also that of the sums of set bits.
     ensures rising { (radix hash : ℕ) → IsStrictlyIncreasing (chain_of radix hash) }

@@ -4,7 +4,7 @@ ghost use Rattle.chains.specs.WellFormed.{IsWellFormed, IsWithin, with_number};
 ghost use Rattle.chains.specs.Located.{located};
 ghost use Rattle.chains.specs.Depth.{depth_of, IsDepth, HasChildren, HasNoChildrenFrom};
 
-/// The laws of depths and ranges (`docs/DEFINITIONS.md`, "Depth and range"), for every radix, hash and set.
+/// The laws of depths and ranges (`crates/chains/README.md`, "Depth and range"), for every radix, hash and set.
 pub fn laws_of_depths()
     ensures depth { (radix part : ℕ) → (set : ℕ → Bool) → IsWellFormed radix set → IsTrue (set part)
         → IsDepth radix part set (depth_of radix part set) }
@@ -27,7 +27,7 @@ pub fn laws_of_depths()
         → IsDepth radix part middle depth }
 {}
 
-/// The laws of a set with one child more (`docs/DEFINITIONS.md`, "Depth and range"), for every radix, hash and set.
+/// The laws of a set with one child more (`crates/chains/README.md`, "Depth and range"), for every radix, hash and set.
 pub fn laws_of_children()
     // The depth before, and the depths with the child.
     ensures before { (radix part depth : ℕ) → (set : ℕ → Bool) → IsWellFormed radix set → part < 2 ^ depth

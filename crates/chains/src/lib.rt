@@ -6,7 +6,7 @@
 //! laws, each a clause of a public function with an empty body. Every definition, law and function takes the
 //! radix as an argument, and a set of partitions is a test of numbers, so that the same laws serve a bitmap and
 //! the tree of the partitions that servers keep. The contract for the layers above: what they prove of splits,
-//! scans and redirections cites these laws and opens no definition. `docs/DEFINITIONS.md` says the definitions
+//! scans and redirections cites these laws and opens no definition. `crates/chains/README.md` says the definitions
 //! in plain words.
 #![tactic(auto)]
 

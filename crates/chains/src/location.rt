@@ -3,7 +3,7 @@ ghost use Rattle.chains.specs.Chain.{OnChain};
 ghost use Rattle.chains.specs.WellFormed.{IsWellFormed, IsWithin};
 ghost use Rattle.chains.specs.Located.{located, IsLocated};
 
-/// The laws of locating (`docs/DEFINITIONS.md`, "Locate"), for every radix, hash and set.
+/// The laws of locating (`crates/chains/README.md`, "Locate"), for every radix, hash and set.
 pub fn laws_of_locating()
     // In a well-formed set the elements of a chain are a prefix of the chain.
     ensures prefix { (radix hash x y : ℕ) → (set : ℕ → Bool) → IsWellFormed radix set

@@ -6,7 +6,7 @@ ghost use Rattle.chains.specs.Located.{located};
 ghost use Rattle.chains.specs.Depth.{HasChildren, HasOtherChildren, HasChildrenBelow};
 
 /// The laws of two sets, one within the other, as a server's bitmap is within the tree of the kept partitions:
-/// where the smaller locates a hash, and where the greater does (`docs/DEFINITIONS.md`, "Locate").
+/// where the smaller locates a hash, and where the greater does (`crates/chains/README.md`, "Locate").
 pub fn laws_of_owners()
     // Both locate it at the same partition, where the smaller set has all children of that partition,
     ensures quiet { (radix hash part : ℕ) → (small large : ℕ → Bool) → IsWellFormed radix small

@@ -4,7 +4,7 @@ ghost use Rattle.chains.specs.Located.{located};
 ghost use Rattle.chains.specs.Depth.{depth_of};
 
 /// The laws of one set under two radixes: what is well formed under the lesser is so under the greater, with the
-/// same locations and depths (`docs/DEFINITIONS.md`, "Chain").
+/// same locations and depths (`crates/chains/README.md`, "Chain").
 pub fn laws_of_radixes()
     ensures wide { (radix wider : ℕ) → (set : ℕ → Bool) → radix ≤ wider → IsWellFormed radix set
         → IsWellFormed wider set }

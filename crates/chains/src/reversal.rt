@@ -15,7 +15,7 @@ fn swap(n: u64, by: u32, mask: u64) -> u64
     ((n >> by) & mask) | ((n & mask) << by)
 }
 
-/// The number with its 64 bits in the opposite order (`docs/DEFINITIONS.md`, "Reversed hash").
+/// The number with its 64 bits in the opposite order (`crates/chains/README.md`, "Reversed hash").
 pub fn reverse(n: u64) -> u64
     ensures { result ≡ reversed 64 n }
 {
@@ -28,7 +28,7 @@ pub fn reverse(n: u64) -> u64
     swap(n, 32, 0x0000_0000_ffff_ffff)
 }
 
-/// The laws of hashes with their bits in the opposite order (`docs/DEFINITIONS.md`, "Reversed hash"), for every
+/// The laws of hashes with their bits in the opposite order (`crates/chains/README.md`, "Reversed hash"), for every
 /// width.
 pub fn laws_of_reversed_hashes()
     ensures below { (width n : ℕ) → reversed width n < 2 ^ width }
@@ -42,7 +42,7 @@ pub fn laws_of_reversed_hashes()
         → (bit_at hash depth ≡ 1) ↔ (reversed width part + 2 ^ (width - suc depth) ≤ reversed width hash) }
 {}
 
-/// The laws of spans of reversed hashes (`docs/DEFINITIONS.md`, "Reversed hash"), for every width, radix and set.
+/// The laws of spans of reversed hashes (`crates/chains/README.md`, "Reversed hash"), for every width, radix and set.
 pub fn laws_of_spans()
     ensures fits { (width depth part : ℕ) → depth ≤ width → part < 2 ^ depth → last_of width part depth < 2 ^ width }
 

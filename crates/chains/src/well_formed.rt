@@ -2,7 +2,7 @@ ghost use Rattle.std.specs.Prelude.{◌≡◌, ℕ, suc, ◌+◌, ◌^◌, ◌<�
 ghost use Rattle.chains.specs.Depth.{IsDepth};
 ghost use Rattle.chains.specs.WellFormed.{IsWellFormed, IsWithin, with_number, union_of, IsMissing, IsRequiredBy};
 
-/// The laws of well-formed sets (`docs/DEFINITIONS.md`, "Well-formed bitmap"), for every radix and set.
+/// The laws of well-formed sets (`crates/chains/README.md`, "Well-formed bitmap"), for every radix and set.
 pub fn laws_of_well_formed_sets()
     ensures root { (radix : ℕ) → IsWellFormed radix (λ i. i == 0) }
     ensures unions { (radix : ℕ) → (a b : ℕ → Bool) → IsWellFormed radix a → IsWellFormed radix b
@@ -15,7 +15,7 @@ pub fn laws_of_well_formed_sets()
         → IsDepth radix part set depth → depth < radix → IsWellFormed radix (with_number set (part + 2 ^ depth)) }
 {}
 
-/// The laws of what a set of partitions lacks (`docs/DEFINITIONS.md`, "Missing"), for every radix and set.
+/// The laws of what a set of partitions lacks (`crates/chains/README.md`, "Missing"), for every radix and set.
 pub fn laws_of_missing_numbers()
     ensures none_missing { (radix : ℕ) → (set : ℕ → Bool) → IsWellFormed radix set → (m : ℕ) → IsMissing radix set m
         → ⊥ }

@@ -59,11 +59,18 @@ cursor_of call = None
 -- the request that a client sends
 abbrev pub request_of : ClientV → ℕ → ℕ → Call → Msg
 request_of client seq attempt call =
-    Request (server_of (dir_of call) (target_of client call) client.setup.servers) (record { client = client.number; seq = seq; attempt = attempt; call = call }) (cursor_of call)
+    Request (server_of (dir_of call) (target_of client call) client.setup.servers)
+    (record { client = client.number; seq = seq; attempt = attempt; call = call }) (cursor_of call)
 
 -- the client once its next call was sent for the first time
 abbrev pub issued : ClientV → Call → ClientV
-issued client call = record { number = client.number; setup = client.setup; bits = client.bits; seq = client.seq + 1; pending = Some (record { call = call; attempt = 1 }) }
+issued client call = record {
+  number = client.number;
+  setup = client.setup;
+  bits = client.bits;
+  seq = client.seq + 1;
+  pending = Some (record { call = call; attempt = 1 });
+}
 
 abbrev pub issue_msg : ClientV → Call → Msg
 issue_msg client call = request_of client (client.seq + 1) 1 call

@@ -56,7 +56,8 @@ present_at client (Some pending) seq attempt = is_present client pending seq att
 -- whether a redirection of a directory is one of the open call
 abbrev pub redirects_at : ClientV → Option Pending → ℕ → ℕ → ℕ → Bool
 redirects_at client None seq attempt dir = false
-redirects_at client (Some pending) seq attempt dir = is_present client pending seq attempt && (dir == dir_of pending.call)
+redirects_at client (Some pending) seq attempt dir =
+    is_present client pending seq attempt && (dir == dir_of pending.call)
 
 -- whether a reply answers the open call
 abbrev pub answers_at : ClientV → Option Pending → ℕ → ℕ → Reply → Bool
@@ -78,20 +79,28 @@ held_if client until false = ignored client
 
 -- a redirection that is taken: the bitmap is merged, and the attempt number rises at once
 abbrev pub redirected_if : ClientV → Pending → ℕ → Bits → Bool → Took
-redirected_if client pending dir bits true = record { taken = variants.Redirected (target_of (merged client dir bits) pending.call); client = resent (merged client dir bits) pending }
+redirected_if client pending dir bits true = record {
+  taken = variants.Redirected
+      (target_of (merged client dir bits) pending.call);
+  client = resent (merged client dir bits) pending;
+}
 redirected_if client pending dir bits false = ignored client
 
 abbrev pub take_pending : ClientV → Pending → Msg → Took
-take_pending client pending (Answer to seq attempt reply) = answered_if client reply (is_present client pending seq attempt && fits pending.call reply)
-take_pending client pending (Redirect to seq attempt dir bits) = redirected_if client pending dir bits (is_present client pending seq attempt && (dir == dir_of pending.call))
-take_pending client pending (Busy to seq attempt part depth) = busy_if client part (is_present client pending seq attempt)
+take_pending client pending (Answer to seq attempt reply) =
+    answered_if client reply (is_present client pending seq attempt && fits pending.call reply)
+take_pending client pending (Redirect to seq attempt dir bits) =
+    redirected_if client pending dir bits (is_present client pending seq attempt && (dir == dir_of pending.call))
+take_pending client pending (Busy to seq attempt part depth) =
+    busy_if client part (is_present client pending seq attempt)
 take_pending client pending (Held to seq attempt until) = held_if client until (is_present client pending seq attempt)
 take_pending client pending msg = ignored client
 
 -- what a redirection comes to, where a call is open
 abbrev pub redirected_at : ClientV → Option Pending → ℕ → ℕ → ℕ → Bits → Took
 redirected_at client None seq attempt dir bits = ignored client
-redirected_at client (Some pending) seq attempt dir bits = redirected_if client pending dir bits (is_present client pending seq attempt && (dir == dir_of pending.call))
+redirected_at client (Some pending) seq attempt dir bits =
+    redirected_if client pending dir bits (is_present client pending seq attempt && (dir == dir_of pending.call))
 
 abbrev pub take_at : ClientV → Option Pending → Msg → Took
 take_at client None msg = ignored client

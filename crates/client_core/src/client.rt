@@ -1,12 +1,15 @@
-ghost use Rattle.std.specs.Prelude.{◌≡◌, ℕ, ◌+◌, ◌<◌, ◌≤◌, OnOk, OnErr, IfOk, Some, None, true, false, is_some, unwrap_or};
+ghost use Rattle.std.specs.Prelude.{◌≡◌, ℕ, ◌+◌, ◌<◌, ◌≤◌, OnOk, OnErr, IfOk, Some, None, true, false, is_some};
+ghost use Rattle.std.specs.Prelude.{unwrap_or};
 ghost use Rattle.std.specs.FinMap as map;
 ghost use Rattle.std.specs.Ordering.{nat_cmp};
 ghost use Rattle.std.specs.FinSet as set;
 ghost use Rattle.mds_base.specs.declared.limits.TheConstants.{CALLS, DIRECTORIES};
 ghost use Rattle.bitmap.specs.Bits.{Bits};
-ghost use Rattle.client_core.specs.Clients.{new_client, bits_in, target_of, zero_bits, request_of, cursor_of, issued, issue_msg, merged, located_in, attempt_of, HasPending, HasRoom, SendsAgain};
+ghost use Rattle.client_core.specs.Clients.{new_client, bits_in, target_of, zero_bits, request_of, cursor_of, issued};
+ghost use Rattle.client_core.specs.Clients.{issue_msg, merged, located_in, attempt_of, HasPending, HasRoom, SendsAgain};
 ghost use Rattle.mds_base.specs.Calls.{dir_of};
-ghost use Rattle.client_core.specs.Taking.{take, fits, is_said, is_looked, answered_if, present_at, answers_at, redirects_at, redirected_at, IsTaken};
+ghost use Rattle.client_core.specs.Taking.{take, fits, is_said, is_looked, answered_if, present_at, answers_at};
+ghost use Rattle.client_core.specs.Taking.{redirects_at, redirected_at, IsTaken};
 ghost use Rattle.client_core.specs.Ranges.{AreRanges};
 
 use crate::taken::Taken;
@@ -29,7 +32,7 @@ pub struct Pending {
 }
 
 /// A client: it numbers its calls, has at most one open, and keeps a bitmap for each directory
-/// (`docs/DEFINITIONS.md`, "Client").
+/// (`crates/client_core/README.md`, "Client").
 #[derive(Debug, Drop)]
 pub struct Client {
     number: u32,
@@ -51,7 +54,15 @@ impl Model for Client {
 
     ghost use Rattle.client_core.specs.Ranges.{AreRanges};
 
-    ghost view = { λ a. record { number = a.number; setup = a.setup; seq = a.seq; pending = a.pending; bits = map.from_entries a.bits.entries } };
+    ghost view = { λ a.
+        record {
+          number = a.number;
+          setup = a.setup;
+          seq = a.seq;
+          pending = a.pending;
+          bits =
+              map.from_entries a.bits.entries;
+        } };
 
     ghost invariant = { λ a. AreRanges a.setup };
 }
@@ -239,7 +250,10 @@ impl Client {
         attempt: u32,
         reply: &Reply,
     ) -> Result<Taken, AllocError>
-        ensures ok { IfOk result (λ taken. IsTaken (answered_if self.old reply.now (answers_at self.old self.old.pending seq attempt reply.now)) taken self.new) }
+        ensures ok { IfOk result
+            (λ taken. IsTaken
+            (answered_if self.old reply.now (answers_at self.old self.old.pending seq attempt reply.now)) taken
+            self.new) }
         ensures err { OnErr result (self.new ≡ self.old) }
     {
         if !self.answers(seq, attempt, reply) {
@@ -258,7 +272,8 @@ impl Client {
         bitmap: &Bitmap,
     ) -> Result<Taken, AllocError>
         requires { HasRoom self.old.pending }
-        ensures ok { IfOk result (λ taken. IsTaken (redirected_at self.old self.old.pending seq attempt dir bitmap.now) taken self.new) }
+        ensures ok { IfOk result
+            (λ taken. IsTaken (redirected_at self.old self.old.pending seq attempt dir bitmap.now) taken self.new) }
         ensures err { OnErr result (self.new ≡ self.old) }
     {
         if !self.redirects(seq, attempt, dir) {
@@ -319,8 +334,10 @@ impl Client {
 
 // Keeps a bitmap for a directory.
 fn put_bits(bits: &mut BTreeMap<u64, Bitmap>, dir: u64, bitmap: Bitmap) -> Result<(), AllocError>
-    ensures ok { OnOk result (map.from_entries {R = nat_cmp} bits.new.entries ≡ map.insert (map.from_entries bits.old.entries) dir bitmap) }
-    ensures err { OnErr result (map.from_entries {R = nat_cmp} bits.new.entries ≡ map.from_entries {R = nat_cmp} bits.old.entries) }
+    ensures ok { OnOk result
+        (map.from_entries {R = nat_cmp} bits.new.entries ≡ map.insert (map.from_entries bits.old.entries) dir bitmap) }
+    ensures err { OnErr result
+        (map.from_entries {R = nat_cmp} bits.new.entries ≡ map.from_entries {R = nat_cmp} bits.old.entries) }
 {
     bits.insert(dir, bitmap)?;
     Ok(())

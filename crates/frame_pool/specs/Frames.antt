@@ -1,5 +1,6 @@
 -- Frames: pieces of memory of one size, each with a number of its own in its pool, which are lent and given back.
-use Rattle.std.specs.Prelude.{◌≡◌, ℕ, List, Option, Some, None, is_some, count_by, slice_get, slice_set, replicate, length}
+use Rattle.std.specs.Prelude.{◌≡◌, ℕ, List, Option, Some, None, is_some, count_by, slice_get, slice_set, replicate}
+use Rattle.std.specs.Prelude.{length}
 use Rattle.std.specs.List.{refill}
 use Rattle.std.specs.Global.{Vec}
 use Rattle.frame_pool.specs.declared.TheConstants.{FRAME_BYTES}
@@ -9,8 +10,8 @@ pub record FrameOut : Type 0 where
   pub number : ℕ
   pub bytes : List ℕ
 
--- The frames of a pool, by their numbers: of a free one the bytes that it holds, None of one that is out. So each number
--- below the length is free or out, and never both.
+-- The frames of a pool, by their numbers: of a free one the bytes that it holds, None of one that is out. So each
+-- number below the length is free or out, and never both.
 abbrev pub Frames : Type 0
 Frames = List (Option (List ℕ))
 

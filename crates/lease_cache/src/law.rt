@@ -4,10 +4,12 @@ ghost use Rattle.mds_base.specs.Entries.{Place};
 ghost use Rattle.lease_cache.specs.declared.lease.Lease.{Lease};
 ghost use Rattle.lease_cache.specs.Cache.{Cache, answered, used, kept, dropped};
 
-/// What follows from the definitions (`docs/DEFINITIONS.md`, "Lease cache"), for all caches, places and moments.
+/// What follows from the definitions (`crates/lease_cache/README.md`, "Lease cache"), for all caches, places and
+/// moments.
 pub fn laws_of_lease_caches()
     // What is answered is kept of that place, with an end above the moment.
-    ensures answered_kept { (cache : Cache) → (place : Place) → (now : ℕ) → (attr : Attr) → answered cache place now ≡ Some attr
+    ensures answered_kept { (cache : Cache) → (place : Place) → (now : ℕ) → (attr : Attr)
+        → answered cache place now ≡ Some attr
         → (lease : Lease) × (Contains cache.entries (place, lease)) × (lease.attr ≡ attr) × (now < lease.until) }
 
     // Right after it is kept a lease is answered until it ends.

@@ -12,7 +12,7 @@ use std::marker::Model;
 use std::num::NonZeroUsize;
 
 /// The leases that a client keeps of what it looked up, at most as many as its capacity
-/// (`docs/DEFINITIONS.md`, "Lease cache").
+/// (`crates/lease_cache/README.md`, "Lease cache").
 #[derive(Debug, Drop)]
 pub struct LeaseCache {
     leases: LruCache<Vec<u8>, Lease>,

@@ -1,7 +1,7 @@
 ghost use Rattle.std.specs.Prelude.{◌≡◌, ◌≢◌, ◌<◌, ◌≤◌, ℕ, List, max};
 ghost use Rattle.leases.specs.Leases.{LeasesV, unleased, granted, held_until, top, swept};
 
-/// What follows from the definitions (`docs/DEFINITIONS.md`, "Leases"), for all leases, names and moments.
+/// What follows from the definitions (`crates/leases/README.md`, "Leases"), for all leases, names and moments.
 pub fn laws_of_leases()
     // A name is held for the new lease too, and no other name for longer than before.
     ensures granted_here { (l : LeasesV) → (name : List ℕ) → (until : ℕ)

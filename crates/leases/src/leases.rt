@@ -7,7 +7,7 @@ use std::alloc::{AllocError, Global};
 use std::marker::Model;
 
 /// The leases that a partition granted on its names: for each name the greatest moment at which one ends, and the
-/// floor, which no lease passes that is not kept here (`docs/DEFINITIONS.md`, "Leases").
+/// floor, which no lease passes that is not kept here (`crates/leases/README.md`, "Leases").
 #[derive(Debug, Drop)]
 pub struct Leases {
     ends: Ends,

@@ -6,7 +6,8 @@ use Rattle.mds_base.specs.declared.limits.TheConstants.{DIRECTORIES, EPOCHS, MOD
 use Rattle.mds_base.specs.declared.call.Asked.{Asked}
 use Rattle.mds_base.specs.declared.call.Asked.TheVariants as seen
 use Rattle.mds_base.specs.declared.call.Call.{Call}
-use Rattle.mds_base.specs.declared.call.Call.TheVariants.{Create, Mkdir, Remove, Lookup, Setattr, Scan, Grab, Load, Link, Seal, Unseal, Kill, Unlink}
+use Rattle.mds_base.specs.declared.call.Call.TheVariants.{Create, Mkdir, Remove, Lookup, Setattr, Scan, Grab, Load}
+use Rattle.mds_base.specs.declared.call.Call.TheVariants.{Link, Seal, Unseal, Kill, Unlink}
 
 pub data CallOn : Type 0 where
   -- a name of a directory; whether the call is a change, which a server notes and records

@@ -43,7 +43,8 @@ stamp_of attr = if is_stamped attr then Some (record { owner = attr.owner; mtime
 -- the attributes with another mode and size, and with the stamp's owner and time where there is a stamp
 abbrev pub reset_attr : Attr → ℕ → ℕ → Option Stamp → Attr
 reset_attr attr mode size None = record attr { mode = mode; size = size }
-reset_attr attr mode size (Some stamp) = record { dir = attr.dir; mode = mode; size = size; owner = stamp.owner; mtime = stamp.mtime }
+reset_attr attr mode size (Some stamp) =
+    record { dir = attr.dir; mode = mode; size = size; owner = stamp.owner; mtime = stamp.mtime }
 
 -- the map after an edit of one entry
 abbrev pub edited : Entries → Place → Edit → Entries
@@ -62,5 +63,7 @@ abbrev pub coded_place : Coded Place
 coded_place = coded× coded_ℕ (coded_list coded_ℕ)
 
 abbrev pub coded_attr : Coded Attr
-coded_attr = code_by (ℕ × (ℕ × (ℕ × (ℕ × ℕ)))) (coded× coded_ℕ (coded× coded_ℕ (coded× coded_ℕ (coded× coded_ℕ coded_ℕ))))
-    (λ a. (a.dir, (a.mode, (a.size, (a.owner, a.mtime))))) (λ p. record { dir = p.0; mode = p.1.0; size = p.1.1.0; owner = p.1.1.1.0; mtime = p.1.1.1.1 }) (λ _. refl)
+coded_attr = code_by (ℕ × (ℕ × (ℕ × (ℕ × ℕ))))
+    (coded× coded_ℕ (coded× coded_ℕ (coded× coded_ℕ (coded× coded_ℕ coded_ℕ))))
+    (λ a. (a.dir, (a.mode, (a.size, (a.owner, a.mtime)))))
+    (λ p. record { dir = p.0; mode = p.1.0; size = p.1.1.0; owner = p.1.1.1.0; mtime = p.1.1.1.1 }) (λ _. refl)

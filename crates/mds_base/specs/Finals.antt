@@ -1,7 +1,8 @@
 -- Whether two final replies are one, as a test.
 use Rattle.std.specs.Prelude.{ℕ, ◌==◌, ◌&&◌, Bool}
 use Rattle.mds_base.specs.declared.reply.Final.{Final}
-use Rattle.mds_base.specs.declared.reply.Final.TheVariants.{Created, CreatedDir, Exists, Removed, Missing, IsDir, Set, Ids, Loaded, Stale, Sealed, NotEmpty, Late, Opened, Killed}
+use Rattle.mds_base.specs.declared.reply.Final.TheVariants.{Created, CreatedDir, Exists, Removed, Missing, IsDir, Set}
+use Rattle.mds_base.specs.declared.reply.Final.TheVariants.{Ids, Loaded, Stale, Sealed, NotEmpty, Late, Opened, Killed}
 
 -- a final's kind, and its numbers
 abbrev pub final_tag : Final → ℕ × ℕ × ℕ
@@ -22,4 +23,5 @@ final_tag Opened = (14, 0, 0)
 final_tag Killed = (15, 0, 0)
 
 abbrev pub same_final : Final → Final → Bool
-same_final a b = (((final_tag a).0 == (final_tag b).0) && ((final_tag a).1 == (final_tag b).1)) && ((final_tag a).2 == (final_tag b).2)
+same_final a b = (((final_tag a).0 == (final_tag b).0) && ((final_tag a).1 == (final_tag b).1))
+    && ((final_tag a).2 == (final_tag b).2)

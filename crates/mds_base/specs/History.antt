@@ -14,7 +14,8 @@ map_after start (entry ∷ more) = map_after (after start entry.call entry.reply
 -- each reply is one that the plain rules allow at its place
 abbrev pub EachAllowed : Entries → List Entry → Type 0
 EachAllowed start [] = Unit {0}
-EachAllowed start (entry ∷ more) = Allows start entry.call entry.reply × EachAllowed (after start entry.call entry.reply) more
+EachAllowed start (entry ∷ more) =
+    Allows start entry.call entry.reply × EachAllowed (after start entry.call entry.reply) more
 
 -- the directory numbers that the entries give, in their order
 abbrev pub given : List Entry → List ℕ

@@ -15,5 +15,6 @@ pub record IsSetup (setup : Setup) : Type 0 where
 -- whether it is one
 abbrev pub is_setup : Setup → Bool
 is_setup setup =
-    ((nat_le 1 setup.servers && nat_le setup.servers SERVERS_MOST) && (nat_le 1 setup.clients && nat_le setup.clients CLIENTS_MOST))
+    ((nat_le 1 setup.servers && nat_le setup.servers SERVERS_MOST)
+    && (nat_le 1 setup.clients && nat_le setup.clients CLIENTS_MOST))
     && (nat_le setup.lease LEASE_MOST && (nat_le 1 setup.threshold && nat_le setup.threshold THRESHOLD_MOST))

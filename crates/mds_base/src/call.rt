@@ -139,7 +139,7 @@ impl Call {
         }
     }
 
-    /// Whether each number of the call is within its range (`docs/DEFINITIONS.md`, "Well-made call").
+    /// Whether each number of the call is within its range (`crates/mds_base/README.md`, "Well-made call").
     pub fn is_well_made(&self) -> bool
         ensures { result ≡ is_well_made self.now }
     {

@@ -3,7 +3,7 @@ ghost use Rattle.std.specs.Prelude.{◌≡◌, IfOk};
 use crate::name::Name;
 use std::alloc::{AllocError, Global};
 
-/// A place between the rows of a directory, from which a scan goes on (`docs/DEFINITIONS.md`, "Past the cursor").
+/// A place between the rows of a directory, from which a scan goes on (`crates/mds_base/README.md`, "Past the cursor").
 #[derive(Debug, Drop)]
 pub struct Cursor {
     /// The reversed hash at which the cursor stands.

@@ -5,7 +5,7 @@
 //! is a list of bytes that is a name, `Name::read` answers `BadName` exactly for other bytes, and each `copy` equals
 //! its source. The plain rules (`specs/PlainRules.antt`) say which reply a call may get on a map of entries and what
 //! map it leaves, and `laws_of_histories` has the laws that later theorems take. `Rows` is a finite map whose page is
-//! the first rows past the cursor. `docs/DEFINITIONS.md` says the definitions in plain words.
+//! the first rows past the cursor.
 #![tactic(auto)]
 
 mod ask;
@@ -55,5 +55,5 @@ pub use store_fault::{Damage, Head, StoreFault};
 pub use walked::Walked;
 
 /// The radix: a directory has at most 2 ^ `RADIX` partitions. Definitions and laws take the radix as an argument
-/// (`docs/DECISIONS.md`); contracts cite them at this value.
+/// (`crates/chains/README.md`); contracts cite them at this value.
 pub const RADIX: u32 = 10;

@@ -37,7 +37,7 @@ impl From<AllocError> for NameFault {
 }
 
 /// The name of an entry in a directory: 1 to 255 bytes, none of them `/` or NUL, and neither `.` nor `..`
-/// (`docs/DEFINITIONS.md`, "Name"). Names are ordered by their bytes. Up to 22 bytes lie in the name itself.
+/// (`crates/mds_base/README.md`, "Name"). Names are ordered by their bytes. Up to 22 bytes lie in the name itself.
 #[derive(Debug, Drop)]
 pub struct Name {
     bytes: Kept,
@@ -186,7 +186,7 @@ impl Ord for Name {
     }
 }
 
-/// Whether the bytes are a name (`docs/DEFINITIONS.md`, "Name").
+/// Whether the bytes are a name (`crates/mds_base/README.md`, "Name").
 pub fn is_name(bytes: &[u8]) -> bool
     ensures { result ≡ is_name bytes.now }
 {

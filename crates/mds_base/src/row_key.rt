@@ -37,20 +37,23 @@ impl RowKey {
     }
 }
 
-/// The laws of the order of row keys (`docs/DEFINITIONS.md`, "Row keys"), for all keys and all maps of rows.
+/// The laws of the order of row keys (`crates/mds_base/README.md`, "Row keys"), for all keys and all maps of rows.
 pub fn laws_of_row_keys()
     // The order is total, and only equal keys tie.
     ensures total { IsTotalOrder row_key_cmp }
     ensures exact { (a b : RowKey) → row_key_cmp a b ≡ Equal → a ≡ b }
 
     // The rows of one partition of a directory are one interval.
-    ensures interval { (a b c : RowKey) → a.dir ≡ c.dir → a.part ≡ c.part → is_gt (row_key_cmp a b) ≡ false → is_gt (row_key_cmp b c) ≡ false → (b.dir ≡ a.dir) × (b.part ≡ a.part) }
+    ensures interval { (a b c : RowKey) → a.dir ≡ c.dir → a.part ≡ c.part → is_gt (row_key_cmp a b) ≡ false
+        → is_gt (row_key_cmp b c) ≡ false → (b.dir ≡ a.dir) × (b.part ≡ a.part) }
 
     // In a partition, what follows a row that is past the cursor is past it too.
-    ensures past_up { (cursor : Cursor) → (a b : RowKey) → a.dir ≡ b.dir → a.part ≡ b.part → is_past cursor a ≡ true → row_key_cmp a b ≡ Less → is_past cursor b ≡ true }
+    ensures past_up { (cursor : Cursor) → (a b : RowKey) → a.dir ≡ b.dir → a.part ≡ b.part → is_past cursor a ≡ true
+        → row_key_cmp a b ≡ Less → is_past cursor b ≡ true }
 
     // The rows whose keys pass a test stand in the order in which they stood among all.
-    ensures kept { (rows : RowMap) → (test : RowKey → Bool) → map.entries (map.retain_keys rows test) ≡ filter (λ row. test row.0) (map.entries rows) }
+    ensures kept { (rows : RowMap) → (test : RowKey → Bool)
+        → map.entries (map.retain_keys rows test) ≡ filter (λ row. test row.0) (map.entries rows) }
 
     // Two maps with the same look-ups are one.
     ensures same { (m n : RowMap) → ((key : RowKey) → map.get m key ≡ map.get n key) → m ≡ n }

@@ -38,7 +38,7 @@ pub enum StoreFault {
     #[error("damaged")]
     Damaged {
         file: u32,
-        place: u64,
+        offset: u64,
         damage: Damage,
     },
     /// The messages to send would count more rows than there was room for. Nothing changed.

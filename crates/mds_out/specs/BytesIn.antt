@@ -14,4 +14,10 @@ given_count reading room = min (min reading.step room) (length reading.left)
 
 -- after a call that gave this many bytes, or none because it failed
 abbrev pub after_read : Reading → ℕ → Reading
-after_read reading count = record { left = drop count reading.left; step = reading.step; fails = reading.fails; made = next_number reading.made }
+after_read reading count = record {
+  left = drop count reading.left;
+  step = reading.step;
+  fails = reading.fails;
+  made =
+      next_number reading.made;
+}

@@ -21,11 +21,16 @@ fails_next writing = is_failing writing.fails writing.made
 
 -- after a call that took these bytes
 abbrev pub after_write : Writing → List ℕ → Writing
-after_write writing bytes = record writing { taken = writing.taken ++ bytes; made = next_number writing.made; passed = false }
+after_write writing bytes =
+    record writing { taken = writing.taken ++ bytes; made = next_number writing.made; passed = false }
 
 -- after a write that failed, by its number or for want of memory
 abbrev pub after_refusal : Writing → Writing
-after_refusal writing = record writing { made = next_number writing.made; refused = (if fails_next writing then writing.refused else min (writing.refused + 1) (2 ^ 64 - 1)) }
+after_refusal writing = record writing {
+  made = next_number writing.made;
+  refused =
+      (if fails_next writing then writing.refused else min (writing.refused + 1) (2 ^ 64 - 1));
+}
 
 -- after a call that passed on what was taken
 abbrev pub after_finish : Writing → Writing

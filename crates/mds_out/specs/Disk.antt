@@ -1,5 +1,6 @@
 -- What the calls of a disk do to its files, and what a crash may do during them.
-use Rattle.std.specs.Prelude.{◌≡◌, ◌≢◌, ◌⊎◌, ℕ, ◌+◌, ◌≤◌, List, ◌++◌, length, take, drop, ⊤, Option, None, Some, Result, OnOk, IsErrOf}
+use Rattle.std.specs.Prelude.{◌≡◌, ◌≢◌, ◌⊎◌, ℕ, ◌+◌, ◌≤◌, List, ◌++◌, length, take, drop, ⊤, Option, None, Some, Result}
+use Rattle.std.specs.Prelude.{OnOk, IsErrOf}
 use Rattle.mds_out.specs.declared.disk.DiskFault.{DiskFault}
 use Rattle.mds_out.specs.declared.disk.DiskFault.TheVariants.{Device, OutOfMemory}
 use Rattle.mds_out.specs.Fault.{Rose}
@@ -58,17 +59,20 @@ pub record ChangesOne (file : ℕ) (change : List ℕ → List ℕ → Type 0) (
 
 -- each new image is an old one after this change of one file
 abbrev pub Follows : ℕ → (List ℕ → List ℕ → Type 0) → (Image → Type 0) → (Image → Type 0) → Type 0
-Follows file change old new = (image : Image) → new image → (before : Image) × old before × ChangesOne file change before image
+Follows file change old new =
+    (image : Image) → new image → (before : Image) × old before × ChangesOne file change before image
 
--- Time goes on: a crash since an earlier moment might have left what it might have left before this call, or what it may
--- leave now, and nothing else.
+-- Time goes on: a crash since an earlier moment might have left what it might have left before this call, or what it
+-- may leave now, and nothing else.
 pub record Elapses (before now : ℕ) (past since : ℕ → Image → Type 0) (images : Image → Type 0) : Type 0 where
   pub later : before ≤ now
-  pub nothing_else : (moment : ℕ) (image : Image) → moment ≤ before → since moment image → past moment image ⊎ images image
+  pub nothing_else : (moment : ℕ) (image : Image) → moment ≤ before → since moment image
+      → past moment image ⊎ images image
   pub keeps : (moment : ℕ) (image : Image) → moment ≤ before → past moment image → since moment image
 
 -- A crash at any moment since `old` leaves an image that has P.
-pub record LeavesOnly {D : Type 0} (moment : D → ℕ) (since : D → ℕ → Image → Type 0) (old new : D) (P : Image → Type 0) : Type 0 where
+pub record LeavesOnly {D : Type 0} (moment : D → ℕ) (since : D → ℕ → Image → Type 0) (old new : D)
+    (P : Image → Type 0) : Type 0 where
   pub later : moment old ≤ moment new
   pub each : (image : Image) → since new (moment old) image → P image
   -- for a run that began earlier
@@ -83,8 +87,10 @@ pub record HasDiskCause {T : Type 0} (before now : ℕ) (result : Result T DiskF
 
 -- A call that changes nothing, as `length` and `read`, or a run of such calls up to this answer: what a read gives, the
 -- images and the count of writes and cuts are as before.
-pub record IsReading {D T : Type 0} (seen : D → Contents) (sizes : D → Lengths) (images : D → Image → Type 0) (moment : D → ℕ) (since : D → ℕ → Image → Type 0)
-    (faults changes_asked : D → ℕ) (leads fails_by : D → D → Type 0) (old new : D) (result : Result T DiskFault) : Type 0 where
+pub record IsReading {D T : Type 0} (seen : D → Contents) (sizes : D → Lengths) (images : D → Image → Type 0)
+    (moment : D → ℕ) (since : D → ℕ → Image → Type 0)
+    (faults changes_asked : D → ℕ) (leads fails_by : D → D → Type 0) (old new : D)
+    (result : Result T DiskFault) : Type 0 where
   pub unchanged : IsUnchanged (seen old) (seen new) (sizes old) (sizes new)
   pub crash : AreSame (images old) (images new)
   pub time : Elapses (moment old) (moment new) (since old) (since new) (images new)
@@ -95,7 +101,8 @@ pub record IsReading {D T : Type 0} (seen : D → Contents) (sizes : D → Lengt
   pub changes : changes_asked new ≡ changes_asked old
 
 -- A call that may change something, as the others, or a run of calls up to this answer.
-pub record IsChanging {D T : Type 0} (faults : D → ℕ) (leads fails_by : D → D → Type 0) (old new : D) (result : Result T DiskFault) : Type 0 where
+pub record IsChanging {D T : Type 0} (faults : D → ℕ) (leads fails_by : D → D → Type 0) (old new : D)
+    (result : Result T DiskFault) : Type 0 where
   pub cause : HasDiskCause (faults old) (faults new) result
   pub lasts : leads old new
   pub failed : IsErrOf result Device → fails_by old new

@@ -1,5 +1,5 @@
--- What becomes of messages: the count of those that a link lost or kept for later, and a list of fates that are given in
--- turn.
+-- What becomes of messages: the count of those that a link lost or kept for later, and a list of fates that are given
+-- in turn.
 use Rattle.std.specs.Prelude.{◌≡◌, ℕ, zero, suc, ◌+◌, ◌≤◌, min, List, length, slice_index_or}
 use Rattle.mds_out.specs.declared.fate.Fate.{Fate}
 use Rattle.mds_out.specs.declared.fate.Fate.TheVariants.{Deliver, Lose, Twice, Late}

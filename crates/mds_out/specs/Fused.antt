@@ -40,10 +40,12 @@ look_refused fuse = record fuse { refused = next_number fuse.refused }
 
 -- after a write or a cut was refused
 abbrev pub change_refused : {D : Type 0} → Fused D → Fused D
-change_refused fuse = record fuse { refused = next_number fuse.refused; refused_changes = next_number fuse.refused_changes }
+change_refused fuse =
+    record fuse { refused = next_number fuse.refused; refused_changes = next_number fuse.refused_changes }
 
 -- a call that the fuse refused: the disk is not called, and the answer is `Device`
-pub record IsRefused {D T : Type 0} (after : Fused D → Fused D) (old new : Fused D) (result : Result T DiskFault) : Type 0 where
+pub record IsRefused {D T : Type 0} (after : Fused D → Fused D) (old new : Fused D)
+    (result : Result T DiskFault) : Type 0 where
   pub answer : is_device result ≡ true
   pub same : new ≡ after old
 
@@ -62,8 +64,8 @@ pub record IsUnarmed {D : Type 0} (old new : Fused D) : Type 0 where
   pub left : new.left ≡ None
   pub refused : new.refused ≡ old.refused
 
--- What calls alone make of a fuse and its disk: the counts never fall, and a fuse that is not armed stays so and refuses
--- none.
+-- What calls alone make of a fuse and its disk: the counts never fall, and a fuse that is not armed stays so and
+-- refuses none.
 pub record OutlastsBy {D : Type 0} (lasts : D → D → Type 0) (faults : D → ℕ) (old new : Fused D) : Type 0 where
   pub inner : lasts old.inner new.inner
   pub later : faults old.inner ≤ faults new.inner

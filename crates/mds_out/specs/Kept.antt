@@ -1,5 +1,5 @@
--- What was done to a file or to a disk in memory, as it is kept: the bytes of all writes one behind the other; and of each
--- write of a file their place there, of each write to a disk how many they are.
+-- What was done to a file or to a disk in memory, as it is kept: the bytes of all writes one behind the other; and of
+-- each write of a file their place there, of each write to a disk how many they are.
 use Rattle.std.specs.Prelude.{ℕ, ◌≡◌, ◌+◌, ◌≤◌, List, [], ◌∷◌, map, take, drop, suc}
 use Rattle.mds_out.specs.Change.{Change, Write, Cut}
 use Rattle.mds_out.specs.Past.{Act, Changed, Synced, Restarted}

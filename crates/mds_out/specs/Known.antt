@@ -1,4 +1,5 @@
--- Facts on what a value may tell or keep to itself. For bytes, `Appends`, `Consumes`, `Keeps` and `prepend_known` are std's.
+-- Facts on what a value may tell or keep to itself. For bytes, `Appends`, `Consumes`, `Keeps` and `prepend_known` are
+-- std's.
 use Rattle.std.specs.Prelude.{⊤, Option, None, Some}
 
 -- where it was told before, it is told now, and P holds of both

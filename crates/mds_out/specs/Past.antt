@@ -1,6 +1,7 @@
--- What a disk in memory is: what a restart leaves, the failing calls, how many calls and how many writes and cuts it was
--- asked, and all that was done to it, oldest first.
-use Rattle.std.specs.Prelude.{◌≡◌, ◌≤◌, ℕ, Bool, true, false, List, [], ◌∷◌, ◌++◌, length, take, fold, ◌==◌, if◌then◌else◌, Some, Result, Ok, Err, OnOk, OnErr}
+-- What a disk in memory is: what a restart leaves, the failing calls, how many calls and how many writes and cuts it
+-- was asked, and all that was done to it, oldest first.
+use Rattle.std.specs.Prelude.{◌≡◌, ◌≤◌, ℕ, Bool, true, false, List, [], ◌∷◌, ◌++◌, length, take, fold, ◌==◌}
+use Rattle.std.specs.Prelude.{if◌then◌else◌, Some, Result, Ok, Err, OnOk, OnErr}
 use Rattle.mds_out.specs.declared.disk.DiskFault.{DiskFault}
 use Rattle.mds_out.specs.declared.disk.DiskFault.TheVariants.{Device, OutOfMemory}
 use Rattle.mds_out.specs.declared.outcome.Outcome.{Outcome}
@@ -33,7 +34,8 @@ IsPastImage outcome acts image = (file : ℕ) → IsImage (history (content_of o
 
 -- what a crash may have left at a moment from this one on, where each act takes the disk to its next moment
 abbrev pub IsImageSince : Outcome → List Act → ℕ → Image → Type 0
-IsImageSince outcome acts moment image = (now : ℕ) × (moment ≤ now) × (now ≤ length acts) × IsPastImage outcome (take now acts) image
+IsImageSince outcome acts moment image =
+    (now : ℕ) × (moment ≤ now) × (now ≤ length acts) × IsPastImage outcome (take now acts) image
 
 pub record Past : Type 0 where
   pub outcome : Outcome

@@ -11,16 +11,28 @@ use Rattle.std.proofs.Common.{ap, subst, sym, arith, refl, ◌∙◌}
 use Rattle.std.proofs.lemmas.List.{take_all}
 use Rattle.std.specs.Option.{option_map}
 
-pub tells_length : (outcome : Outcome) (acts : List Act) (file : ℕ) (bytes : List ℕ) → Some (bytes_of (content_of outcome acts file)) ≡ Some bytes → Some (length (bytes_of (content_of outcome acts file))) ≡ Some (length bytes)
+pub tells_length : (outcome : Outcome) (acts : List Act) (file : ℕ) (bytes : List ℕ)
+    → Some (bytes_of (content_of outcome acts file)) ≡ Some bytes
+    → Some (length (bytes_of (content_of outcome acts file))) ≡ Some (length bytes)
 tells_length outcome acts file bytes is = ap (option_map (λ (b : List ℕ). length b)) is
 
-pub reads_as : (outcome : Outcome) (acts : List Act) (image : Image) → Shows (λ file. Some (bytes_of (content_of outcome acts file))) image → IsPastImage outcome acts image
-reads_as outcome acts image shows file = subst (IsImage (history (content_of outcome acts file))) (sym (shows file)) (replayed_image false (content_of outcome acts file))
+pub reads_as : (outcome : Outcome) (acts : List Act) (image : Image)
+    → Shows (λ file. Some (bytes_of (content_of outcome acts file))) image → IsPastImage outcome acts image
+reads_as outcome acts image shows file = subst (IsImage (history (content_of outcome acts file))) (sym (shows file))
+    (replayed_image false (content_of outcome acts file))
 
-pub counts_now : (outcome : Outcome) (acts : List Act) (t : ℕ) (image : Image) → t ≤ length acts → IsPastImage outcome acts image → IsImageSince outcome acts t image
-counts_now outcome acts t image le now = (length acts, le, omega arith, subst (λ l. IsPastImage outcome l image) (sym (take_all (length acts) acts (omega arith))) now)
+pub counts_now : (outcome : Outcome) (acts : List Act) (t : ℕ) (image : Image) → t ≤ length acts
+    → IsPastImage outcome acts image → IsImageSince outcome acts t image
+counts_now outcome acts t image le now = (
+  length acts,
+  le,
+  omega arith,
+  subst (λ l. IsPastImage outcome l image)
+      (sym (take_all (length acts) acts (omega arith))) now,
+)
 
-pub only_now : (outcome : Outcome) (acts : List Act) (image : Image) → IsImageSince outcome acts (length acts) image → IsPastImage outcome acts image
+pub only_now : (outcome : Outcome) (acts : List Act) (image : Image) → IsImageSince outcome acts (length acts) image
+    → IsPastImage outcome acts image
 only_now outcome acts image since = subst (λ l. IsPastImage outcome l image) (take_all since.0 acts since.1) since.3
 
 pub past_here : (past : Past) → PastLasts past past

@@ -3,7 +3,8 @@ use Rattle.std.specs.Prelude.{◌≡◌, ◌≤◌, ℕ, List, [], length, take,
 use Rattle.std.specs.Io.KnownBytes.{Appends, Consumes}
 use Rattle.mds_out.specs.Known.{OnTold}
 
--- A read gave the next k bytes, at the start of `into`, and took them from what is left. None are given only at the end.
+-- A read gave the next k bytes, at the start of `into`, and took them from what is left. None are given only at the
+-- end.
 pub record Gives (before after : Option (List ℕ)) (into : List ℕ) (k : ℕ) : Type 0 where
   pub within : k ≤ length into
   pub given : Consumes before after (take k into)

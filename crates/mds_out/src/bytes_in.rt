@@ -25,7 +25,8 @@ impl Model for BytesIn {
 
     ghost Value = { Reading };
 
-    ghost view = { λ s. record { left = drop s.at s.bytes.items; step = s.step; fails = s.calls.fails.items; made = s.calls.made } };
+    ghost view = { λ s.
+        record { left = drop s.at s.bytes.items; step = s.step; fails = s.calls.fails.items; made = s.calls.made } };
 
     ghost invariant = { λ s. (s.at ≤ length s.bytes.items) × (1 ≤ s.step) };
 }
@@ -55,9 +56,11 @@ impl Source for BytesIn {
         requires { 1 ≤ length into.old }
         ensures given { IfOk result (Gives (Some self.old.left) (Some self.new.left) into.new) }
         ensures unchanged { OnErr result (Keeps (Some self.old.left) (Some self.new.left)) }
-        ensures cause { HasCause (failed_calls self.old.fails self.old.made) (failed_calls self.new.fails self.new.made) result }
+        ensures cause { HasCause (failed_calls self.old.fails self.old.made) (failed_calls self.new.fails self.new.made)
+            result }
         ensures fails { is_err result ≡ is_failing self.old.fails self.old.made }
-        ensures count { IfOk result (λ k. (k ≡ given_count self.old (length into.old)) × (self.new ≡ after_read self.old k)) }
+        ensures count { IfOk result
+            (λ k. (k ≡ given_count self.old (length into.old)) × (self.new ≡ after_read self.old k)) }
         ensures rest { IfOk result (λ k. drop k into.new ≡ drop k into.old) }
         ensures failed { OnErr result (self.new ≡ after_read self.old 0) }
     {

@@ -1,5 +1,6 @@
 //! A sink over bytes in memory.
-ghost use Rattle.std.specs.Prelude.{◌≡◌, ◌≤◌, [], Some, true, false, length, min, take, is_err, IfOk, OnOk, OnErr, IsTrue};
+ghost use Rattle.std.specs.Prelude.{◌≡◌, ◌≤◌, [], Some, true, false, length, min, take, is_err, IfOk, OnOk, OnErr};
+ghost use Rattle.std.specs.Prelude.{IsTrue};
 ghost use Rattle.std.specs.Io.KnownBytes.{Keeps};
 ghost use Rattle.mds_out.specs.BytesOut.{writing_faults, fails_next, after_write, after_refusal, after_finish};
 ghost use Rattle.mds_out.specs.Fault.{HasCause};
@@ -27,7 +28,16 @@ impl Model for BytesOut {
 
     ghost Value = { Writing };
 
-    ghost view = { λ s. record { taken = s.bytes.items; step = s.step; fails = s.calls.fails.items; made = s.calls.made; refused = s.refused; passed = s.passed } };
+    ghost view = { λ s.
+        record {
+          taken = s.bytes.items;
+          step = s.step;
+          fails = s.calls.fails.items;
+          made = s.calls.made;
+          refused =
+              s.refused;
+          passed = s.passed;
+        } };
 
     ghost invariant = { λ s. 1 ≤ s.step };
 }
@@ -37,7 +47,16 @@ impl BytesOut {
     /// numbered together from 0, that stand in `fails` fail; the number 2^64 - 1 stands for none.
     pub fn new(alloc: Global, step: usize, fails: Vec<u64>) -> Result<BytesOut, AllocError>
         requires { 1 ≤ step }
-        ensures { IfOk result (λ out. out ≡ record { taken = []; step = step; fails = fails.items; made = 0; refused = 0; passed = true }) }
+        ensures { IfOk result
+            (λ out. out ≡ record {
+              taken = [];
+              step = step;
+              fails = fails.items;
+              made = 0;
+              refused = 0;
+              passed =
+                  true;
+            }) }
     {
         Ok(BytesOut {
             bytes: Vec::new(alloc),
@@ -69,7 +88,8 @@ impl Sink for BytesOut {
         ensures unchanged { OnErr result (Keeps (Some self.old.taken) (Some self.new.taken)) }
         ensures cause { HasCause (writing_faults self.old) (writing_faults self.new) result }
         ensures fails { OnOk result (fails_next self.old ≡ false) }
-        ensures count { IfOk result (λ k. (k ≡ min self.old.step (length bytes.now)) × (self.new ≡ after_write self.old (take k bytes.now))) }
+        ensures count { IfOk result
+            (λ k. (k ≡ min self.old.step (length bytes.now)) × (self.new ≡ after_write self.old (take k bytes.now))) }
         ensures failed { OnErr result (self.new ≡ after_refusal self.old) }
     {
         self.calls.make()?;

@@ -79,10 +79,13 @@ impl Changes {
     pub(crate) fn add_old(&mut self, file: &[u8], from: usize, to: usize) -> Result<(), AllocError>
         requires order { from ≤ to }
         requires within { to ≤ length file.now }
-        ensures back { OnOk result ((now : List ℕ) → take from now ≡ take from file.now → (to < length file.now → drop to now ≡ drop to file.now)
+        ensures back { OnOk result
+            ((now : List ℕ) → take from now ≡ take from file.now
+            → (to < length file.now → drop to now ≡ drop to file.now)
             → unwound now self.new ≡ unwound file.now self.old) }
         ensures same { unwound file.now self.new ≡ unwound file.now self.old }
-        ensures fit { (n : ℕ) → length file.now ≤ n → All (λ change. change_end change ≤ n) self.old → All (λ change. change_end change ≤ n) self.new }
+        ensures fit { (n : ℕ) → length file.now ≤ n → All (λ change. change_end change ≤ n) self.old
+            → All (λ change. change_end change ≤ n) self.new }
     {
         self.add_cut(file.len())?;
         self.add_write(from, &file[from..to])?;
@@ -102,7 +105,8 @@ impl Changes {
         requires within { len ≤ length buffer.old }
         requires fit { All (λ change. change_end change ≤ length buffer.old) self.now }
         ensures count { result ≤ length buffer.new }
-        ensures replayed { take result buffer.new ≡ fold (λ bytes change. changed bytes (redone spoil change)) (take len buffer.old) self.now }
+        ensures replayed { take result buffer.new
+            ≡ fold (λ bytes change. changed bytes (redone spoil change)) (take len buffer.old) self.now }
     {
         let mut len = len;
         for kept in &self.kept {
@@ -135,7 +139,8 @@ fn redo(buffer: &mut [u8], len: usize, written: &[u8], kept: KeptChange, spoil: 
     requires bytes { IsChangeWithin (length written.now) kept }
     requires fits { change_end (change_in written.now kept) ≤ length buffer.old }
     ensures count { result ≤ length buffer.new }
-    ensures redone { take result buffer.new ≡ changed (take len buffer.old) (redone spoil (change_in written.now kept)) }
+    ensures redone { take result buffer.new
+        ≡ changed (take len buffer.old) (redone spoil (change_in written.now kept)) }
 {
     match kept {
         KeptChange::Write {

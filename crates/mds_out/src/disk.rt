@@ -1,11 +1,13 @@
 //! Numbered files that a crash may leave in another state than they read.
-ghost use Rattle.std.specs.Prelude.{◌≡◌, ◌+◌, ◌-◌, ◌*◌, ◌^◌, ◌<◌, ◌≤◌, List, ℕ, Option, Some, max, length, take, drop, IfOk, OnOk, OnErr, IsErrOf, ⊤};
+ghost use Rattle.std.specs.Prelude.{◌≡◌, ◌+◌, ◌-◌, ◌*◌, ◌^◌, ◌<◌, ◌≤◌, List, ℕ, Option, Some, max, length, take, drop};
+ghost use Rattle.std.specs.Prelude.{IfOk, OnOk, OnErr, IsErrOf, ⊤};
 ghost use Rattle.mds_out.specs.declared.disk.DiskFault.TheVariants.{OutOfMemory};
 ghost use Rattle.mds_out.specs.Fault.{Rose};
 ghost use Rattle.mds_out.specs.Calls.{next_number};
 ghost use Rattle.mds_out.specs.Known.{OnKnown, OnTold};
 ghost use Rattle.mds_out.specs.Images.{IsTorn, IsShortened, StepsGiveImages, ImagesComeByStep};
-ghost use Rattle.mds_out.specs.Disk.{Image, Tells, Contents, Lengths, put, Shows, IsUnchanged, IsElsewhereUnchanged, AreSame, Follows, Elapses, IsReading, IsChanging};
+ghost use Rattle.mds_out.specs.Disk.{Image, Tells, Contents, Lengths, put, Shows, IsUnchanged, IsElsewhereUnchanged};
+ghost use Rattle.mds_out.specs.Disk.{AreSame, Follows, Elapses, IsReading, IsChanging};
 
 use std::alloc::{AllocError, AllocFailed};
 use thiserror::Error;
@@ -78,28 +80,36 @@ pub trait Disk {
     /// The length of a file. Never `OutOfMemory`.
     fn length(&mut self, file: u32) -> Result<u64, DiskFault>
         ensures short { IfOk result (λ size. size < 2 ^ 63) }
-        ensures told { IfOk result (λ size. (sizes self.new file ≡ Some size) × OnTold (sizes self.old file) (λ before. size ≡ before)) }
-        ensures call { IsReading seen sizes images moment images_since faults changes_asked lasts fails self.old self.new result }
+        ensures told { IfOk result
+            (λ size. (sizes self.new file ≡ Some size) × OnTold (sizes self.old file) (λ before. size ≡ before)) }
+        ensures call { IsReading seen sizes images moment images_since faults changes_asked lasts fails self.old
+            self.new result }
         ensures asked { asked self.new ≡ next_number (asked self.old) };
 
     /// Fills `into` with the bytes of a file from `at` on. Never `OutOfMemory`. After a refusal `into` holds any bytes.
     fn read(&mut self, file: u32, at: u64, into: &mut [u8]) -> Result<(), DiskFault>
         requires short { at + length into.old < 2 ^ 63 }
         requires within { OnTold (sizes self.old file) (λ size. at + length into.old ≤ size) }
-        ensures bytes { OnOk result (OnTold (seen self.old file) (λ bytes. into.new ≡ take (length into.old) (drop at bytes))) }
-        ensures call { IsReading seen sizes images moment images_since faults changes_asked lasts fails self.old self.new result }
+        ensures bytes { OnOk result
+            (OnTold (seen self.old file) (λ bytes. into.new ≡ take (length into.old) (drop at bytes))) }
+        ensures call { IsReading seen sizes images moment images_since faults changes_asked lasts fails self.old
+            self.new result }
         ensures asked { asked self.new ≡ next_number (asked self.old) };
 
     /// Writes over what is there, and past the end. A refused write touches its own range at most.
     fn write_at(&mut self, file: u32, at: u64, bytes: &[u8]) -> Result<(), DiskFault>
         requires short { at + length bytes.now < 2 ^ 63 }
         requires within { OnTold (sizes self.old file) (λ size. at ≤ size) }
-        ensures written { OnOk result (Tells (seen self.old file) (seen self.new file) (λ old new. new ≡ put old at bytes.now)) }
-        ensures size { OnOk result (OnKnown (sizes self.old file) (sizes self.new file) (λ old new. new ≡ max old (at + length bytes.now))) }
+        ensures written { OnOk result
+            (Tells (seen self.old file) (seen self.new file) (λ old new. new ≡ put old at bytes.now)) }
+        ensures size { OnOk result
+            (OnKnown (sizes self.old file) (sizes self.new file) (λ old new. new ≡ max old (at + length bytes.now))) }
         ensures torn { OnErr result (Tells (seen self.old file) (seen self.new file) (IsTorn at (length bytes.now))) }
-        ensures elsewhere { IsElsewhereUnchanged file (seen self.old) (seen self.new) (sizes self.old) (sizes self.new) }
+        ensures elsewhere { IsElsewhereUnchanged file (seen self.old) (seen self.new) (sizes self.old)
+            (sizes self.new) }
         ensures crash { Follows file (IsTorn at (length bytes.now)) (images self.old) (images self.new) }
-        ensures time { Elapses (moment self.old) (moment self.new) (images_since self.old) (images_since self.new) (images self.new) }
+        ensures time { Elapses (moment self.old) (moment self.new) (images_since self.old) (images_since self.new)
+            (images self.new) }
         ensures call { IsChanging faults lasts fails self.old self.new result }
         ensures asked { asked self.new ≡ next_number (asked self.old) }
         ensures changes { changes_asked self.new ≡ next_number (changes_asked self.old) };
@@ -110,20 +120,24 @@ pub trait Disk {
         ensures cut { OnOk result (Tells (seen self.old file) (seen self.new file) (λ old new. new ≡ take to old)) }
         ensures size { OnOk result (sizes self.new file ≡ Some to) }
         ensures torn { OnErr result (Tells (seen self.old file) (seen self.new file) (IsShortened to)) }
-        ensures elsewhere { IsElsewhereUnchanged file (seen self.old) (seen self.new) (sizes self.old) (sizes self.new) }
+        ensures elsewhere { IsElsewhereUnchanged file (seen self.old) (seen self.new) (sizes self.old)
+            (sizes self.new) }
         ensures crash { Follows file (IsShortened to) (images self.old) (images self.new) }
-        ensures time { Elapses (moment self.old) (moment self.new) (images_since self.old) (images_since self.new) (images self.new) }
+        ensures time { Elapses (moment self.old) (moment self.new) (images_since self.old) (images_since self.new)
+            (images self.new) }
         ensures call { IsChanging faults lasts fails self.old self.new result }
         ensures asked { asked self.new ≡ next_number (asked self.old) }
         ensures changes { changes_asked self.new ≡ next_number (changes_asked self.old) };
 
     /// After it a crash leaves of the file what a read gives. A refused sync changes no image.
     fn sync(&mut self, file: u32) -> Result<(), DiskFault>
-        ensures durable { OnOk result (OnTold (seen self.old file) (λ bytes. (image : Image) → images self.new image → image file ≡ bytes)) }
+        ensures durable { OnOk result
+            (OnTold (seen self.old file) (λ bytes. (image : Image) → images self.new image → image file ≡ bytes)) }
         ensures unchanged { IsUnchanged (seen self.old) (seen self.new) (sizes self.old) (sizes self.new) }
         ensures crash { (image : Image) → images self.new image → images self.old image }
         ensures refused { OnErr result (AreSame (images self.old) (images self.new)) }
-        ensures time { Elapses (moment self.old) (moment self.new) (images_since self.old) (images_since self.new) (images self.new) }
+        ensures time { Elapses (moment self.old) (moment self.new) (images_since self.old) (images_since self.new)
+            (images self.new) }
         ensures call { IsChanging faults lasts fails self.old self.new result }
         ensures asked { asked self.new ≡ next_number (asked self.old) }
         ensures changes { changes_asked self.new ≡ changes_asked self.old };
@@ -135,21 +149,25 @@ pub trait Disk {
         ensures left { OnOk result ((image : Image) × images self.old image × Shows (seen self.new) image) }
         ensures tells { OnOk result ((file : ℕ) → Tells (seen self.old file) (seen self.new file) (λ old new. ⊤)) }
         ensures crash { (image : Image) → images self.new image → images self.old image }
-        ensures unchanged { OnErr result (IsUnchanged (seen self.old) (seen self.new) (sizes self.old) (sizes self.new)) }
+        ensures unchanged { OnErr result
+            (IsUnchanged (seen self.old) (seen self.new) (sizes self.old) (sizes self.new)) }
         ensures refused { OnErr result (AreSame (images self.old) (images self.new)) }
-        ensures time { Elapses (moment self.old) (moment self.new) (images_since self.old) (images_since self.new) (images self.new) }
+        ensures time { Elapses (moment self.old) (moment self.new) (images_since self.old) (images_since self.new)
+            (images self.new) }
         ensures call { IsChanging faults lasts fails self.old self.new result }
         ensures asked { asked self.new ≡ next_number (asked self.old) }
         ensures changes { changes_asked self.new ≡ changes_asked self.old };
 
     /// A disk tells the length of each file whose bytes it tells.
-    ghost tells_length: { (disk : Self) (file : ℕ) (bytes : List ℕ) → seen disk file ≡ Some bytes → sizes disk file ≡ Some (length bytes) };
+    ghost tells_length: { (disk : Self) (file : ℕ) (bytes : List ℕ) → seen disk file ≡ Some bytes
+        → sizes disk file ≡ Some (length bytes) };
 
     /// A disk as it reads is one of its images.
     ghost reads_as: { (disk : Self) (image : Image) → Shows (seen disk) image → images disk image };
 
     /// This moment is one of those since an earlier one.
-    ghost counts_now: { (disk : Self) (t : ℕ) (image : Image) → t ≤ moment disk → images disk image → images_since disk t image };
+    ghost counts_now: { (disk : Self) (t : ℕ) (image : Image) → t ≤ moment disk → images disk image
+        → images_since disk t image };
 
     /// Since this moment there is no other.
     ghost only_now: { (disk : Self) (image : Image) → images_since disk (moment disk) image → images disk image };

@@ -121,9 +121,11 @@ fn settle(
     requires within { len ≤ length current.old.items }
     requires undo_fits { All (λ change. change_end change ≤ length current.old.items) undo.now }
     requires since_fits { All (λ change. change_end change ≤ length current.old.items) since.now }
-    requires reads { take len current.old.items ≡ bytes_of (record { synced = unwound (take len current.old.items) undo.now; since = since.now }) }
+    requires reads { take len current.old.items
+        ≡ bytes_of (record { synced = unwound (take len current.old.items) undo.now; since = since.now }) }
     ensures count { result ≤ length current.new.items }
-    ensures left { take result current.new.items ≡ left_of outcome (record { synced = unwound (take len current.old.items) undo.now; since = since.now }) }
+    ensures left { take result current.new.items
+        ≡ left_of outcome (record { synced = unwound (take len current.old.items) undo.now; since = since.now }) }
 {
     match outcome {
         Outcome::Old => undo.unwind(current, len),

@@ -37,7 +37,8 @@ impl Link for ListLink {
     ghost faults = { λ l. lost_before l.list l.next };
 
     fn fate(&mut self, _client: u32, _seq: u64, _attempt: u32) -> Fate
-        ensures cause { HasFateCause (lost_before self.old.list self.old.next) (lost_before self.new.list self.new.next) result }
+        ensures cause { HasFateCause (lost_before self.old.list self.old.next) (lost_before self.new.list self.new.next)
+            result }
         ensures fate { result ≡ slice_index_or self.old.list self.old.next Deliver }
         ensures after { self.new ≡ after_fate self.old }
     {

@@ -70,7 +70,8 @@ pub(crate) fn write_file(
     bytes: &[u8],
 ) -> Result<(), AllocError>
     requires { at + length bytes.now < 2 ^ 63 }
-    ensures ok { OnOk result ((outcome : _) → HaveActed outcome (Changed number (Write at bytes.now)) slots.old.items slots.new.items) }
+    ensures ok { OnOk result
+        ((outcome : _) → HaveActed outcome (Changed number (Write at bytes.now)) slots.old.items slots.new.items) }
     ensures err { OnErr result (AreAsBefore slots.old.items slots.new.items) }
 {
     let place = place_for(alloc, slots, number)?;
@@ -84,7 +85,8 @@ pub(crate) fn cut_file(
     number: u32,
     to: usize,
 ) -> Result<(), AllocError>
-    ensures ok { OnOk result ((outcome : _) → HaveActed outcome (Changed number (Cut to)) slots.old.items slots.new.items) }
+    ensures ok { OnOk result
+        ((outcome : _) → HaveActed outcome (Changed number (Cut to)) slots.old.items slots.new.items) }
     ensures err { OnErr result (AreAsBefore slots.old.items slots.new.items) }
 {
     let place = place_for(alloc, slots, number)?;

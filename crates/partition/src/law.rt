@@ -13,8 +13,8 @@ ghost use Rattle.partition.specs.Serving.{edits_in, IsInPart};
 ghost use Rattle.partition.specs.Meaning.{CallIn, plan_in, part_left, rows_left, IsCarried};
 ghost use Rattle.partition.specs.Meaning.{names_of, IsApart, AreWithin, Mirrors, count_in};
 
-/// The laws of serving in a partition (`docs/DEFINITIONS.md`, "Serving in a partition"), for all partitions, rows,
-/// calls and moments.
+/// The laws of serving in a partition (`crates/partition/README.md`, "Serving in a partition"), for all partitions,
+/// rows, calls and moments.
 pub fn laws_of_serving()
     // No row changes but those of the call's names, and none where a call on a name was refused.
     ensures rows { (at : CallIn) → (key : RowKey) → IsApart at.dir at.number (names_of at.ask.call) key

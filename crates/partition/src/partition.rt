@@ -81,9 +81,9 @@ impl Partition {
         })
     }
 
-    /// Serves a call in partition `part` of a directory at a moment (`docs/DEFINITIONS.md`, "Serving in a partition").
-    /// `fresh` is the number that a mkdir or a grab gives. Where it is refused the partition stays as it is, and the
-    /// rows are as `make` says.
+    /// Serves a call in partition `part` of a directory at a moment (`crates/partition/README.md`, "Serving in a
+    /// partition"). `fresh` is the number that a mkdir or a grab gives. Where it is refused the partition stays as it
+    /// is, and the rows are as `make` says.
     pub fn serve<R: Rows>(
         &mut self,
         alloc: Global,

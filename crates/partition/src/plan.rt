@@ -33,7 +33,7 @@ pub enum Change {
     },
 }
 
-/// A call that was worked out and is still to be made (`docs/DEFINITIONS.md`, "Plan of a partition").
+/// A call that was worked out and is still to be made (`crates/partition/README.md`, "Plan of a partition").
 #[derive(Debug, Drop)]
 pub struct Plan {
     /// What serving the call comes to.

@@ -1,5 +1,6 @@
 -- What a path says: the names of its components, where each of them spells one.
-use Rattle.std.specs.Prelude.{ℕ, ◌+◌, ◌≡◌, List, [], ◌∷◌, Option, Some, None, Result, Ok, Err, not, ◌==◌, if◌then◌else◌, length, slice_index, filter}
+use Rattle.std.specs.Prelude.{ℕ, ◌+◌, ◌≡◌, List, [], ◌∷◌, Option, Some, None, Result, Ok, Err, not, ◌==◌, if◌then◌else◌}
+use Rattle.std.specs.Prelude.{length, slice_index, filter}
 use Rattle.std.specs.List.{slice_split}
 use Rattle.script.specs.Reading.{name_of}
 use Rattle.path_walk.specs.declared.fault.PathFault.{PathFault}

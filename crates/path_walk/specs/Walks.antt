@@ -22,13 +22,16 @@ Ends asks verdict known = (asks ≡ []) × (verdict ≡ known)
 abbrev pub After : Asked → ℕ → List (List ℕ) → List Lookup → Walked → (Attr → Type 0) → Type 0
 After Missing at names asks verdict GoesOn = Ends asks verdict (verdicts.Missing at)
 After Unanswered at names asks verdict GoesOn = Ends asks verdict (verdicts.Open at)
-After (Found attr) at names asks verdict GoesOn = MatchBool (ends_at attr names) (Ends asks verdict (verdicts.NotDir at)) (GoesOn attr)
+After (Found attr) at names asks verdict GoesOn =
+    MatchBool (ends_at attr names) (Ends asks verdict (verdicts.NotDir at)) (GoesOn attr)
 
--- from what was found so far these names, of which the first is at this place, are walked with these asks to this verdict
+-- from what was found so far these names, of which the first is at this place, are walked with these asks to this
+-- verdict
 abbrev pub Walks : ℕ → Attr → List (List ℕ) → List Lookup → Walked → Type 0
 Walks at here [] asks verdict = Ends asks verdict (verdicts.Found here)
 Walks at here (name ∷ names) [] verdict = ⊥
-Walks at here (name ∷ names) (ask ∷ asks) verdict = (ask.dir ≡ here.dir) × (ask.name ≡ name) × After ask.answer at names asks verdict (λ attr. Walks (at + 1) attr names asks verdict)
+Walks at here (name ∷ names) (ask ∷ asks) verdict = (ask.dir ≡ here.dir) × (ask.name ≡ name)
+    × After ask.answer at names asks verdict (λ attr. Walks (at + 1) attr names asks verdict)
 
 -- the root, at which each walk begins
 abbrev pub root : Attr

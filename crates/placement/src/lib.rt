@@ -9,7 +9,7 @@ ghost use Rattle.std.specs.Prelude.{◌≡◌, ◌^◌, ◌<◌, ◌≤◌};
 ghost use Rattle.placement.specs.Placement.{server_of};
 
 /// The server of partition `part` of the directory numbered `dir`, among servers numbered from 0
-/// (`docs/DEFINITIONS.md`, "Placement").
+/// (`crates/placement/README.md`, "Placement").
 pub fn server_of(dir: u64, part: u32, servers: u32) -> u32
     requires some_server { 1 ≤ servers }
     requires dir_fits { dir < 2 ^ 48 }

@@ -9,4 +9,5 @@ use Rattle.plain_dir.specs.declared.check.Check.TheVariants.{Legal, Breaks}
 -- it is legal, or the entries before the place are, and no longer with the one that stands there
 abbrev pub IsCheckOf : List Entry → Check → Type 0
 IsCheckOf history Legal = IsLegal map.empty history
-IsCheckOf history (Breaks place) = (place < length history) × IsLegal map.empty (take place history) × (IsLegal map.empty (take (place + 1) history) → ⊥)
+IsCheckOf history (Breaks place) = (place < length history) × IsLegal map.empty (take place history)
+    × (IsLegal map.empty (take (place + 1) history) → ⊥)

@@ -1,5 +1,6 @@
 -- Directory numbers that are given once.
-use Rattle.std.specs.Prelude.{◌≡◌, ◌≤◌, ℕ, ◌-◌, ◌==◌, ◌||◌, List, [], ◌∷◌, ◌++◌, Bool, false, nat_eq, nat_le, nat_lt, if◌then◌else◌}
+use Rattle.std.specs.Prelude.{◌≡◌, ◌≤◌, ℕ, ◌-◌, ◌==◌, ◌||◌, List, [], ◌∷◌, ◌++◌, Bool, false, nat_eq, nat_le, nat_lt}
+use Rattle.std.specs.Prelude.{if◌then◌else◌}
 use Rattle.std.specs.List.{AllByRecursion, IsDistinct, range_with_len}
 use Rattle.plain_dir.specs.declared.numbers.Range.{Range}
 
@@ -20,4 +21,5 @@ pub record IsNew (before more : List ℕ) : Type 0 where
 
 -- the ranges have a number in common
 abbrev pub meets : Range → Range → Bool
-meets a b = if (a.count == 0) || (b.count == 0) then false else if nat_le a.first b.first then nat_lt (b.first - a.first) a.count else nat_lt (a.first - b.first) b.count
+meets a b = if (a.count == 0) || (b.count == 0) then false else if nat_le a.first b.first
+    then nat_lt (b.first - a.first) a.count else nat_lt (a.first - b.first) b.count

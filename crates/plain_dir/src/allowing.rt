@@ -1,6 +1,7 @@
 //! Which replies the plain rules allow where an entry of these attributes stands, or none.
 ghost use Rattle.std.specs.Prelude.{◌≡◌, ◌==◌, ℕ, MatchBool, MatchOption, if◌then◌else◌};
-ghost use Rattle.mds_base.specs.declared.reply.Final.TheVariants.{Exists, Missing, Removed, IsDir, Set, CreatedDir, Ids};
+ghost use Rattle.mds_base.specs.declared.reply.Final.TheVariants.{Exists, Missing, Removed, IsDir, Set, CreatedDir};
+ghost use Rattle.mds_base.specs.declared.reply.Final.TheVariants.{Ids};
 ghost use Rattle.mds_base.specs.declared.reply.Reply.TheVariants.{Said, Found};
 ghost use Rattle.mds_base.specs.Entries.{is_file};
 ghost use Rattle.mds_base.specs.PlainRules.{UnsealAllows};
@@ -31,7 +32,8 @@ fn is_said(reply: &Reply, said: Final) -> bool
 
 /// Whether a call that makes an entry may be answered so, where it says `said` of an entry that it made.
 pub(crate) fn may_make(before: Option<Attr>, reply: &Reply, said: Final) -> bool
-    ensures { let P = MatchOption before (reply.now ≡ Said said) (λ _. reply.now ≡ Said Exists) in MatchBool result P (P → ⊥) }
+    ensures { let P =
+        MatchOption before (reply.now ≡ Said said) (λ _. reply.now ≡ Said Exists) in MatchBool result P (P → ⊥) }
 {
     match before {
         None => is_said(reply, said),
@@ -41,7 +43,8 @@ pub(crate) fn may_make(before: Option<Attr>, reply: &Reply, said: Final) -> bool
 
 /// Whether a mkdir may be answered so.
 pub(crate) fn may_make_directory(before: Option<Attr>, reply: &Reply) -> bool
-    ensures { let P = MatchOption before ((number : ℕ) × (reply.now ≡ Said (CreatedDir number))) (λ _. reply.now ≡ Said Exists) in MatchBool result P (P → ⊥) }
+    ensures { let P = MatchOption before ((number : ℕ) × (reply.now ≡ Said (CreatedDir number)))
+        (λ _. reply.now ≡ Said Exists) in MatchBool result P (P → ⊥) }
 {
     match before {
         None => match reply {
@@ -54,7 +57,8 @@ pub(crate) fn may_make_directory(before: Option<Attr>, reply: &Reply) -> bool
 
 /// Whether a remove may be answered so.
 pub(crate) fn may_remove(before: Option<Attr>, reply: &Reply) -> bool
-    ensures { let P = MatchOption before (reply.now ≡ Said Missing) (λ attr. reply.now ≡ Said (if is_file attr then Removed else IsDir)) in MatchBool result P (P → ⊥) }
+    ensures { let P = MatchOption before (reply.now ≡ Said Missing)
+        (λ attr. reply.now ≡ Said (if is_file attr then Removed else IsDir)) in MatchBool result P (P → ⊥) }
 {
     match before {
         None => is_said(reply, Final::Missing),
@@ -71,7 +75,8 @@ pub(crate) fn may_remove(before: Option<Attr>, reply: &Reply) -> bool
 
 /// Whether an unlink of the directory `id` may be answered so.
 pub(crate) fn may_unlink(before: Option<Attr>, id: u64, reply: &Reply) -> bool
-    ensures { let P = MatchOption before (reply.now ≡ Said Missing) (λ attr. reply.now ≡ Said (if attr.dir == id then Removed else Exists)) in MatchBool result P (P → ⊥) }
+    ensures { let P = MatchOption before (reply.now ≡ Said Missing)
+        (λ attr. reply.now ≡ Said (if attr.dir == id then Removed else Exists)) in MatchBool result P (P → ⊥) }
 {
     match before {
         None => is_said(reply, Final::Missing),
@@ -88,7 +93,8 @@ pub(crate) fn may_unlink(before: Option<Attr>, id: u64, reply: &Reply) -> bool
 
 /// Whether a setattr may be answered so.
 pub(crate) fn may_set(before: Option<Attr>, reply: &Reply) -> bool
-    ensures { let P = MatchOption before (reply.now ≡ Said Missing) (λ _. reply.now ≡ Said Set) in MatchBool result P (P → ⊥) }
+    ensures { let P =
+        MatchOption before (reply.now ≡ Said Missing) (λ _. reply.now ≡ Said Set) in MatchBool result P (P → ⊥) }
 {
     match before {
         None => is_said(reply, Final::Missing),
@@ -98,7 +104,8 @@ pub(crate) fn may_set(before: Option<Attr>, reply: &Reply) -> bool
 
 /// Whether a lookup may be answered so; the end of the lease may be any.
 pub(crate) fn may_find(before: Option<Attr>, reply: &Reply) -> bool
-    ensures { let P = MatchOption before (reply.now ≡ Said Missing) (λ attr. (until : ℕ) × (reply.now ≡ Found attr until)) in MatchBool result P (P → ⊥) }
+    ensures { let P = MatchOption before (reply.now ≡ Said Missing)
+        (λ attr. (until : ℕ) × (reply.now ≡ Found attr until)) in MatchBool result P (P → ⊥) }
 {
     match before {
         None => is_said(reply, Final::Missing),

@@ -17,8 +17,8 @@ pub enum Check {
     Breaks { place: u64 },
 }
 
-/// Tests whether the entries are a legal history (`docs/DEFINITIONS.md`, "Legal history"). The ends of leases are not
-/// compared. It is refused only where there is no memory for the plain directory.
+/// Tests whether the entries are a legal history (`crates/mds_base/README.md`, "Legal history"). The ends of leases are
+/// not compared. It is refused only where there is no memory for the plain directory.
 pub fn check_history(alloc: Global, history: &[Entry]) -> Result<Check, AllocError>
     ensures { IfOk result (IsCheckOf history.now) }
 {

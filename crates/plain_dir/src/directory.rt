@@ -40,8 +40,8 @@ impl PlainDir {
         }
     }
 
-    /// Carries a call out by the plain rules (`docs/DEFINITIONS.md`) and gives its reply. `fresh` is the number that a
-    /// mkdir or a grab gives. Where the rules leave a choice, a lease ends at moment 0, a load is not stale, a
+    /// Carries a call out by the plain rules (`crates/mds_base/README.md`) and gives its reply. `fresh` is the number
+    /// that a mkdir or a grab gives. Where the rules leave a choice, a lease ends at moment 0, a load is not stale, a
     /// directory with no entry is sealed at depth 0 with the epoch asked for, and a seal is always taken off. Where
     /// there is no memory the directory stays as it is.
     pub fn apply(&mut self, alloc: Global, call: &Call, fresh: u64) -> Result<Reply, AllocError>
@@ -133,7 +133,9 @@ impl PlainDir {
         call: &Call,
         said: Final,
     ) -> Result<(), AllocError>
-        ensures ok { OnOk result (self.new ≡ edited self.old (dir, name.now) (edit_of call.now (Reply.Said said) (map.get self.old (dir, name.now)))) }
+        ensures ok { OnOk result
+            (self.new ≡ edited self.old (dir, name.now)
+            (edit_of call.now (Reply.Said said) (map.get self.old (dir, name.now)))) }
         ensures err { OnErr result (self.new ≡ self.old) }
     {
         let place = (dir, name.copy(alloc)?);

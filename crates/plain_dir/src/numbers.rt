@@ -45,13 +45,17 @@ impl Numbers {
     /// Adds the numbers that a call with this reply gives, if each is at least 2 and none was given before; answers
     /// whether it is so.
     pub(crate) fn give(&mut self, call: &Call, reply: &Reply) -> Result<bool, AllocError>
-        ensures { IfOk result (λ b. MatchBool b (IsNew self.old (given_by call.now reply.now) × (self.new ≡ self.old ++ given_by call.now reply.now)) (IsNew self.old (given_by call.now reply.now) → ⊥)) }
+        ensures { IfOk result
+            (λ b. MatchBool b
+            (IsNew self.old (given_by call.now reply.now) × (self.new ≡ self.old ++ given_by call.now reply.now))
+            (IsNew self.old (given_by call.now reply.now) → ⊥)) }
     {
         self.add(range_of(call, reply))
     }
 
     fn add(&mut self, range: Range) -> Result<bool, AllocError>
-        ensures { let more = range_with_len range.first range.count in IfOk result (λ b. MatchBool b (IsNew self.old more × (self.new ≡ self.old ++ more)) (IsNew self.old more → ⊥)) }
+        ensures { let more = range_with_len range.first range.count in IfOk result
+            (λ b. MatchBool b (IsNew self.old more × (self.new ≡ self.old ++ more)) (IsNew self.old more → ⊥)) }
     {
         if !is_from_two(range) {
             return Ok(false);
@@ -90,7 +94,8 @@ fn range_of(call: &Call, reply: &Reply) -> Range
 /// Whether each number of a range is at least 2.
 #[tactic(auto, using(crate::proofs::Giving::from_two, crate::proofs::Giving::below_two))]
 fn is_from_two(range: Range) -> bool
-    ensures { let P = AllByRecursion (λ number. 2 ≤ number) (range_with_len range.first range.count) in MatchBool result P (P → ⊥) }
+    ensures { let P =
+        AllByRecursion (λ number. 2 ≤ number) (range_with_len range.first range.count) in MatchBool result P (P → ⊥) }
 {
     range.count == 0 || range.first >= 2
 }

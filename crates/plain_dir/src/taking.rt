@@ -18,7 +18,8 @@ impl PlainDir {
         call: &Call,
         reply: &Reply,
     ) -> Result<bool, AllocError>
-        ensures { let P = Allows self.old call.now reply.now in IfOk result (λ b. MatchBool b (P × (self.new ≡ after self.old call.now reply.now)) (P → ⊥)) }
+        ensures { let P = Allows self.old call.now reply.now in IfOk result
+            (λ b. MatchBool b (P × (self.new ≡ after self.old call.now reply.now)) (P → ⊥)) }
     {
         if let Call::Load { dir, rows } = call {
             return self.takes_load(alloc, *dir, rows.rows(), reply);
@@ -37,7 +38,8 @@ impl PlainDir {
         rows: &[Row],
         reply: &Reply,
     ) -> Result<bool, AllocError>
-        ensures { let P = Allows self.old (Call.Load dir rows.now) reply.now in IfOk result (λ b. MatchBool b (P × (self.new ≡ after self.old (Call.Load dir rows.now) reply.now)) (P → ⊥)) }
+        ensures { let P = Allows self.old (Call.Load dir rows.now) reply.now in IfOk result
+            (λ b. MatchBool b (P × (self.new ≡ after self.old (Call.Load dir rows.now) reply.now)) (P → ⊥)) }
     {
         match reply {
             Reply::Said(said) => match said {

@@ -23,7 +23,8 @@ abbrev pub bitmap_spelling : Bits → List ℕ
 bitmap_spelling bits = map (bitmap_byte bits) (range_with_len 0 128)
 
 abbrev pub session_spelling : Session → List ℕ
-session_spelling session = to_be_bytes w32 session.client ++ (to_be_bytes w64 session.seq ++ final_spelling session.said)
+session_spelling session =
+    to_be_bytes w32 session.client ++ (to_be_bytes w64 session.seq ++ final_spelling session.said)
 
 -- how many sessions there are, in one byte, and each of them
 abbrev pub sessions_spelling : List Session → List ℕ
@@ -39,10 +40,12 @@ pub record IsSession (session : Session) : Type 0 where
 -- sessions whose clients rise, from `least` on
 abbrev pub AreSessions : ℕ → List Session → Type 0
 AreSessions least [] = Unit {0}
-AreSessions least (session ∷ sessions) = (least ≤ session.client) × IsSession session × AreSessions (session.client + 1) sessions
+AreSessions least (session ∷ sessions) =
+    (least ≤ session.client) × IsSession session × AreSessions (session.client + 1) sessions
 
 -- what a child is made from, as far as can be said while the last `missing` bytes of the spelling are still to come
-pub record IsInstall (missing dir part depth : ℕ) (bitmap : Bits) (sessions : List Session) (rows : List Row) : Type 0 where
+pub record IsInstall (missing dir part depth : ℕ) (bitmap : Bits) (sessions : List Session)
+    (rows : List Row) : Type 0 where
   pub directory : IsDirectory dir
   pub deep : 1 ≤ depth
   pub shallow : depth ≤ 10
@@ -56,7 +59,9 @@ pub record IsInstall (missing dir part depth : ℕ) (bitmap : Bits) (sessions : 
 -- the directory, the child, its depth, the bitmap, the sessions and the rows, with stamps where a row has one
 abbrev pub install_spelling : ℕ → ℕ → ℕ → Bits → List Session → List Row → List ℕ
 install_spelling dir part depth bitmap sessions rows =
-    to_be_bytes w64 dir ++ (to_be_bytes w32 part ++ (depth ∷ (bitmap_spelling bitmap ++ (sessions_spelling sessions ++ rows_spelling (some_stamped_of rows) rows))))
+    to_be_bytes w64 dir ++ (to_be_bytes w32 part
+    ++ (depth ∷ (bitmap_spelling bitmap
+    ++ (sessions_spelling sessions ++ rows_spelling (some_stamped_of rows) rows))))
 
 -- the rows of an Install; other records have none of their own
 abbrev pub installed_rows : Record → List Row

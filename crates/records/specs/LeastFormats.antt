@@ -33,6 +33,7 @@ some_stamped_of rows = list_any (λ row. is_stamped row.attr) rows
 
 -- a change has a spelling where its call and its final have one
 abbrev pub least_format : Record → ℕ
-least_format (Served client seq part call said) = if nat_le (least_format_of_call call) (least_format_of_final said) then least_format_of_final said else least_format_of_call call
+least_format (Served client seq part call said) = if nat_le (least_format_of_call call) (least_format_of_final said)
+    then least_format_of_final said else least_format_of_call call
 least_format (Install dir part depth bitmap sessions rows) = if some_stamped_of rows then 2 else 1
 least_format item = 1

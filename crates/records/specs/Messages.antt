@@ -1,7 +1,8 @@
 -- Whom a message is for.
 use Rattle.std.specs.Prelude.{ℕ, Option, Some, None}
 use Rattle.records.specs.declared.msg.Msg.{Msg}
-use Rattle.records.specs.declared.msg.Msg.TheVariants.{Request, Redirect, Answer, Busy, Held, Page, Closed, Transfer, Installed}
+use Rattle.records.specs.declared.msg.Msg.TheVariants.{Request, Redirect, Answer, Busy, Held, Page, Closed, Transfer}
+use Rattle.records.specs.declared.msg.Msg.TheVariants.{Installed}
 
 -- the server that a message is for
 abbrev pub server_of_msg : Msg → Option ℕ

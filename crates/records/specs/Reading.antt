@@ -1,10 +1,14 @@
 -- Reading from left to right, on lists: what stands at the front and the bytes after it, or the first fault.
-use Rattle.std.specs.Prelude.{ℕ, Option, zero, suc, ◌+◌, ◌-◌, ◌*◌, ◌/◌, ◌%◌, ◌^◌, List, [], ◌∷◌, ◌++◌, length, take, drop, Result, Ok, Err, nat_lt, nat_le, ◌==◌, ◌&&◌, not, min, Bool, false, if◌then◌else◌, None, Some}
+use Rattle.std.specs.Prelude.{ℕ, Option, zero, suc, ◌+◌, ◌-◌, ◌*◌, ◌/◌, ◌%◌, ◌^◌, List, [], ◌∷◌, ◌++◌, length, take}
+use Rattle.std.specs.Prelude.{drop, Result, Ok, Err, nat_lt, nat_le, ◌==◌, ◌&&◌, not, min, Bool, false, if◌then◌else◌}
+use Rattle.std.specs.Prelude.{None, Some}
 use Rattle.std.specs.List.{list_any}
 use Rattle.mds_base.specs.declared.call.Call.{Call}
-use Rattle.mds_base.specs.declared.call.Call.TheVariants.{Create, Mkdir, Remove, Setattr, Grab, Load, Link, Seal, Unseal, Kill, Unlink}
+use Rattle.mds_base.specs.declared.call.Call.TheVariants.{Create, Mkdir, Remove, Setattr, Grab, Load, Link, Seal}
+use Rattle.mds_base.specs.declared.call.Call.TheVariants.{Unseal, Kill, Unlink}
 use Rattle.mds_base.specs.declared.reply.Final.{Final}
-use Rattle.mds_base.specs.declared.reply.Final.TheVariants.{Created, CreatedDir, Exists, Removed, Missing, IsDir, Set, Ids, Loaded, Stale, Sealed, NotEmpty, Late, Opened, Killed}
+use Rattle.mds_base.specs.declared.reply.Final.TheVariants.{Created, CreatedDir, Exists, Removed, Missing, IsDir, Set}
+use Rattle.mds_base.specs.declared.reply.Final.TheVariants.{Ids, Loaded, Stale, Sealed, NotEmpty, Late, Opened, Killed}
 use Rattle.mds_base.specs.declared.row.Row.{Row}
 use Rattle.mds_base.specs.Name.{is_name, is_name_byte}
 use Rattle.records.specs.declared.fault.Fault.{Fault}
@@ -39,7 +43,8 @@ unfoldable pub number_at : ℕ → ℕ → ℕ → List ℕ → Result (ℕ × L
 number_at width least most bytes = number_after least most 0 width bytes
 
 -- so many elements behind some others; what an element may be goes by those before it and by how many follow it
-unfoldable pub list_after : {X : Type 0} → (List X → ℕ → List ℕ → Result (X × List ℕ) Fault) → List X → ℕ → List ℕ → Result (List X × List ℕ) Fault
+unfoldable pub list_after : {X : Type 0} → (List X → ℕ → List ℕ → Result (X × List ℕ) Fault) → List X → ℕ → List ℕ
+    → Result (List X × List ℕ) Fault
 list_after item so_far zero bytes = Ok (so_far, bytes)
 list_after item so_far (suc left) bytes = item so_far left bytes >>= λ x. list_after item (so_far ++ x.0 ∷ []) left x.1
 
@@ -51,7 +56,8 @@ from_foreign (b ∷ bytes) = if is_name_byte b then from_foreign bytes else b �
 -- a name of so many bytes, where these bytes from the first foreign one on stand in the first `len` bytes
 abbrev pub text_from : ℕ → List ℕ → List ℕ → Result (List ℕ × List ℕ) Fault
 text_from len bytes (b ∷ foreign) = Err (Bad (suc (length foreign) + (length bytes - len)))
-text_from len bytes [] = if nat_lt (length bytes) len then Err Short else if is_name (take len bytes) then Ok (take len bytes, drop len bytes) else Err (Bad (length bytes - (len - 1)))
+text_from len bytes [] = if nat_lt (length bytes) len then Err Short else if is_name (take len bytes)
+    then Ok (take len bytes, drop len bytes) else Err (Bad (length bytes - (len - 1)))
 
 -- a name of so many bytes
 unfoldable pub text_at : ℕ → List ℕ → Result (List ℕ × List ℕ) Fault
@@ -71,7 +77,8 @@ rising_at before bytes = do
 
 -- a row with these attributes
 abbrev pub row_with : List ℕ → ℕ → ℕ → ℕ → ℕ → ℕ → Row
-row_with name dir mode size owner mtime = record { name = name; attr = record { dir = dir; mode = mode; size = size; owner = owner; mtime = mtime } }
+row_with name dir mode size owner mtime =
+    record { name = name; attr = record { dir = dir; mode = mode; size = size; owner = owner; mtime = mtime } }
 
 -- the owner and the time of a row; at the last row the stamp must be one, if no other was
 unfoldable pub stamp_at : Bool → (ℕ → ℕ → Row) → List ℕ → Result (Row × List ℕ) Fault
@@ -86,7 +93,8 @@ attr_at stamped must name bytes = do
   dir ← number_at 8 0 (2 ^ 48 - 1) bytes
   mode ← number_at 2 0 4095 dir.1
   size ← number_at 8 0 (2 ^ 64 - 1) mode.1
-  if stamped then stamp_at must (row_with name dir.0 mode.0 size.0) size.1 else Ok (row_with name dir.0 mode.0 size.0 0 0, size.1)
+  if stamped then stamp_at must (row_with name dir.0 mode.0 size.0) size.1
+      else Ok (row_with name dir.0 mode.0 size.0 0 0, size.1)
 
 -- whether a row is the last one that can bring the stamp that the rows must have
 abbrev pub must_be_stamped : Bool → List Row → ℕ → Bool
@@ -108,7 +116,8 @@ rows_at stamped least most bytes = do
 unfoldable pub set_after : ℕ → ℕ → List ℕ → ℕ → ℕ → List ℕ → Result (Call × List ℕ) Fault
 set_after kind dir name mode size bytes =
     if kind == kinds.CALL_SETATTR then Ok (Setattr dir name mode size None, bytes)
-    else (number_at 4 0 (2 ^ 32 - 1) bytes >>= λ owner. number_at 8 0 (2 ^ 64 - 1) owner.1 >>= λ mtime. Ok (Setattr dir name mode size (Some (record { owner = owner.0; mtime = mtime.0 })), mtime.1))
+    else (number_at 4 0 (2 ^ 32 - 1) bytes >>= λ owner. number_at 8 0 (2 ^ 64 - 1) owner.1
+    >>= λ mtime. Ok (Setattr dir name mode size (Some (record { owner = owner.0; mtime = mtime.0 })), mtime.1))
 
 -- what follows the name in a call of this kind
 unfoldable pub named_after : ℕ → ℕ → List ℕ → List ℕ → Result (Call × List ℕ) Fault
@@ -119,24 +128,32 @@ named_after kind dir name bytes =
     else if kind == kinds.CALL_GRAB then (number_at 4 1 4096 bytes >>= λ count. Ok (Grab dir name count.0, count.1))
     else if kind == kinds.CALL_LINK then (number_at 8 1 (2 ^ 48 - 1) bytes >>= λ id. Ok (Link dir name id.0, id.1))
     else if kind == kinds.CALL_UNLINK then (number_at 8 1 (2 ^ 48 - 1) bytes >>= λ id. Ok (Unlink dir name id.0, id.1))
-    else (number_at 2 0 4095 bytes >>= λ mode. number_at 8 0 (2 ^ 64 - 1) mode.1 >>= λ size. set_after kind dir name mode.0 size.0 size.1)
+    else (number_at 2 0 4095 bytes >>= λ mode. number_at 8 0 (2 ^ 64 - 1) mode.1
+    >>= λ size. set_after kind dir name mode.0 size.0 size.1)
 
 -- what follows the directory in a call of this kind, but for a load
 unfoldable pub other_after : ℕ → ℕ → List ℕ → Result (Call × List ℕ) Fault
 other_after kind dir bytes =
-    if kind == kinds.CALL_SEAL then (number_at 4 0 1023 bytes >>= λ part. number_at 8 0 (2 ^ 48 - 1) part.1 >>= λ epoch. Ok (Seal dir part.0 epoch.0, epoch.1))
-    else if kind == kinds.CALL_UNSEAL then (number_at 4 0 1023 bytes >>= λ part. number_at 8 0 (2 ^ 48 - 1) part.1 >>= λ epoch. Ok (Unseal dir part.0 epoch.0, epoch.1))
+    if kind == kinds.CALL_SEAL
+    then (number_at 4 0 1023 bytes >>= λ part. number_at 8 0 (2 ^ 48 - 1) part.1
+    >>= λ epoch. Ok (Seal dir part.0 epoch.0, epoch.1))
+    else if kind == kinds.CALL_UNSEAL
+    then (number_at 4 0 1023 bytes >>= λ part. number_at 8 0 (2 ^ 48 - 1) part.1
+    >>= λ epoch. Ok (Unseal dir part.0 epoch.0, epoch.1))
     else if kind == kinds.CALL_KILL then (number_at 8 0 (2 ^ 48 - 1) bytes >>= λ epoch. Ok (Kill dir epoch.0, epoch.1))
     else (name_at bytes >>= λ name. named_after kind dir name.0 name.1)
 
 -- what follows the directory in a call of this kind
 unfoldable pub call_after : ℕ → ℕ → List ℕ → Result (Call × List ℕ) Fault
 call_after kind dir bytes =
-    if kind == kinds.CALL_LOAD then (rows_at false 1 4096 bytes >>= λ rows. Ok (Load dir rows.0, rows.1)) else other_after kind dir bytes
+    if kind == kinds.CALL_LOAD then (rows_at false 1 4096 bytes >>= λ rows. Ok (Load dir rows.0, rows.1))
+    else other_after kind dir bytes
 
 -- the kinds of calls
 abbrev pub call_kinds : List ℕ
-call_kinds = kinds.CALL_CREATE ∷ kinds.CALL_MKDIR ∷ kinds.CALL_REMOVE ∷ kinds.CALL_SETATTR ∷ kinds.CALL_GRAB ∷ kinds.CALL_LOAD ∷ kinds.CALL_LINK ∷ kinds.CALL_STAMP ∷ kinds.CALL_SEAL ∷ kinds.CALL_UNSEAL ∷ kinds.CALL_KILL ∷ kinds.CALL_UNLINK ∷ []
+call_kinds = kinds.CALL_CREATE ∷ kinds.CALL_MKDIR ∷ kinds.CALL_REMOVE ∷ kinds.CALL_SETATTR ∷ kinds.CALL_GRAB
+    ∷ kinds.CALL_LOAD ∷ kinds.CALL_LINK ∷ kinds.CALL_STAMP ∷ kinds.CALL_SEAL ∷ kinds.CALL_UNSEAL ∷ kinds.CALL_KILL
+    ∷ kinds.CALL_UNLINK ∷ []
 
 unfoldable pub call_at : List ℕ → Result (Call × List ℕ) Fault
 call_at bytes = do
@@ -201,4 +218,6 @@ sealed_at bytes = do
 unfoldable pub final_at : Call → List ℕ → Result (Final × List ℕ) Fault
 final_at call bytes = do
   tag ← byte_among (tags_of call) bytes
-  if tag.0 == kinds.FINAL_SEALED then sealed_at tag.1 else (number_at 8 (least_of call tag.0) (most_of call tag.0) tag.1 >>= λ number. Ok (final_of tag.0 number.0, number.1))
+  if tag.0 == kinds.FINAL_SEALED then sealed_at tag.1
+      else (number_at 8 (least_of call tag.0) (most_of call tag.0) tag.1
+      >>= λ number. Ok (final_of tag.0 number.0, number.1))

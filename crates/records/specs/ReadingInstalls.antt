@@ -1,5 +1,7 @@
 -- Reading what the child of a split is made from, on lists, from left to right.
-use Rattle.std.specs.Prelude.{ℕ, Option, None, Some, zero, suc, ◌+◌, ◌-◌, ◌*◌, ◌/◌, ◌%◌, ◌^◌, List, [], ◌∷◌, ◌++◌, length, get_or, Result, Ok, nat_lt, nat_le, ◌==◌, ◌&&◌, ◌||◌, not, Bool, true, if◌then◌else◌}
+use Rattle.std.specs.Prelude.{ℕ, Option, None, Some, zero, suc, ◌+◌, ◌-◌, ◌*◌, ◌/◌, ◌%◌, ◌^◌, List, [], ◌∷◌, ◌++◌}
+use Rattle.std.specs.Prelude.{length, get_or, Result, Ok, nat_lt, nat_le, ◌==◌, ◌&&◌, ◌||◌, not, Bool, true}
+use Rattle.std.specs.Prelude.{if◌then◌else◌}
 use Rattle.std.specs.Int.{bit_at}
 use Rattle.std.specs.List.{slice_get}
 use Rattle.mds_base.specs.declared.reply.Final.{Final}
@@ -39,7 +41,8 @@ is_grown set first (suc count) = is_grown set first count && may_stand set (firs
 
 -- whether a byte may follow these in a bitmap: 0 is in the set, and what the byte brings has what it requires
 abbrev pub may_grow : List ℕ → ℕ → Bool
-may_grow so_far b = (not (length so_far == 0) || (b % 2 == 1)) && is_grown (bit_in (so_far ++ b ∷ [])) (length so_far * 8) 8
+may_grow so_far b =
+    (not (length so_far == 0) || (b % 2 == 1)) && is_grown (bit_in (so_far ++ b ∷ [])) (length so_far * 8) 8
 
 unfoldable pub bitmap_at : List ℕ → Result (Bits × List ℕ) Fault
 bitmap_at bytes = do
@@ -50,14 +53,18 @@ bitmap_at bytes = do
 
 -- the tags of finals
 abbrev pub final_tags : List ℕ
-final_tags = kinds.FINAL_CREATED ∷ kinds.FINAL_CREATED_DIR ∷ kinds.FINAL_EXISTS ∷ kinds.FINAL_REMOVED ∷ kinds.FINAL_MISSING ∷ kinds.FINAL_IS_DIR ∷ kinds.FINAL_SET ∷ kinds.FINAL_IDS ∷ kinds.FINAL_LOADED ∷ kinds.FINAL_STALE ∷ kinds.FINAL_SEALED ∷ kinds.FINAL_NOT_EMPTY ∷ kinds.FINAL_LATE ∷ kinds.FINAL_OPENED ∷ kinds.FINAL_KILLED ∷ []
+final_tags = kinds.FINAL_CREATED ∷ kinds.FINAL_CREATED_DIR ∷ kinds.FINAL_EXISTS ∷ kinds.FINAL_REMOVED
+    ∷ kinds.FINAL_MISSING ∷ kinds.FINAL_IS_DIR ∷ kinds.FINAL_SET ∷ kinds.FINAL_IDS ∷ kinds.FINAL_LOADED
+    ∷ kinds.FINAL_STALE ∷ kinds.FINAL_SEALED ∷ kinds.FINAL_NOT_EMPTY ∷ kinds.FINAL_LATE ∷ kinds.FINAL_OPENED
+    ∷ kinds.FINAL_KILLED ∷ []
 
 -- the range of the number that follows a tag, whatever the call was
 abbrev pub least_with : ℕ → ℕ
 least_with tag = if tag == kinds.FINAL_CREATED_DIR then 1 else if tag == kinds.FINAL_IDS then 2 else 0
 
 abbrev pub most_with : ℕ → ℕ
-most_with tag = if tag == kinds.FINAL_CREATED_DIR then 2 ^ 48 - 1 else if tag == kinds.FINAL_IDS then 2 ^ 45 else if tag == kinds.FINAL_LOADED then 4096 else 0
+most_with tag = if tag == kinds.FINAL_CREATED_DIR then 2 ^ 48 - 1 else if tag == kinds.FINAL_IDS then 2 ^ 45
+    else if tag == kinds.FINAL_LOADED then 4096 else 0
 
 -- what follows a tag, whatever the call was; a seal's is another
 unfoldable pub numbered_at : ℕ → List ℕ → Result (Final × List ℕ) Fault

@@ -1,5 +1,6 @@
 -- Reading records, on lists, from left to right.
-use Rattle.std.specs.Prelude.{ℕ, ◌-◌, ◌^◌, List, [], ◌∷◌, Result, Ok, nat_lt, ◌==◌, ◌&&◌, Bool, false, true, if◌then◌else◌}
+use Rattle.std.specs.Prelude.{ℕ, ◌-◌, ◌^◌, List, [], ◌∷◌, Result, Ok, nat_lt, ◌==◌, ◌&&◌, Bool, false, true}
+use Rattle.std.specs.Prelude.{if◌then◌else◌}
 use Rattle.records.specs.declared.fault.Fault.{Fault}
 use Rattle.records.specs.declared.kinds.TheConstants as kinds
 use Rattle.records.specs.declared.record.Record.{Record}
@@ -40,7 +41,8 @@ split_at kind bytes = do
 
 -- the kinds of records
 abbrev pub record_kinds : List ℕ
-record_kinds = kinds.RECORD_HEAD ∷ kinds.RECORD_OPENED ∷ kinds.RECORD_SERVED ∷ kinds.RECORD_BEGIN ∷ kinds.RECORD_INSTALL ∷ kinds.RECORD_END ∷ kinds.RECORD_INSTALL_STAMPED ∷ []
+record_kinds = kinds.RECORD_HEAD ∷ kinds.RECORD_OPENED ∷ kinds.RECORD_SERVED ∷ kinds.RECORD_BEGIN ∷ kinds.RECORD_INSTALL
+    ∷ kinds.RECORD_END ∷ kinds.RECORD_INSTALL_STAMPED ∷ []
 
 -- what follows the kind of a record
 unfoldable pub record_after : ℕ → List ℕ → Result (Record × List ℕ) Fault

@@ -1,5 +1,6 @@
 -- Names, attributes and rows as bytes, and rows that rise in the order of a scan.
-use Rattle.std.specs.Prelude.{◌≡◌, ℕ, ◌-◌, ◌<◌, ◌≤◌, ◌^◌, List, [], ◌∷◌, ◌++◌, length, Option, Some, None, Bool, true, false, IsTrue}
+use Rattle.std.specs.Prelude.{◌≡◌, ℕ, ◌-◌, ◌<◌, ◌≤◌, ◌^◌, List, [], ◌∷◌, ◌++◌, length, Option, Some, None, Bool, true}
+use Rattle.std.specs.Prelude.{false, IsTrue}
 use Rattle.std.specs.Int.{w16, w32, w64, to_be_bytes}
 use Rattle.std.specs.List.{flat_map, slice_get}
 use Rattle.std.specs.Ordering.{is_lt}
@@ -17,7 +18,9 @@ name_spelling name = length name ∷ name
 -- the directory (0 for a file), the mode and the size; with a stamp the owner and the time too
 abbrev pub attr_spelling : Bool → Attr → List ℕ
 attr_spelling false attr = to_be_bytes w64 attr.dir ++ (to_be_bytes w16 attr.mode ++ to_be_bytes w64 attr.size)
-attr_spelling true attr = to_be_bytes w64 attr.dir ++ (to_be_bytes w16 attr.mode ++ (to_be_bytes w64 attr.size ++ (to_be_bytes w32 attr.owner ++ to_be_bytes w64 attr.mtime)))
+attr_spelling true attr = to_be_bytes w64 attr.dir
+    ++ (to_be_bytes w16 attr.mode
+    ++ (to_be_bytes w64 attr.size ++ (to_be_bytes w32 attr.owner ++ to_be_bytes w64 attr.mtime)))
 
 abbrev pub row_spelling : Bool → Row → List ℕ
 row_spelling stamped row = name_spelling row.name ++ attr_spelling stamped row.attr
@@ -50,9 +53,10 @@ abbrev pub comes_after : Option Row → List ℕ → Bool
 comes_after None name = true
 comes_after (Some row) name = is_lt (scan_cmp row.name name)
 
--- Rows that rise behind a row, as far as can be said while the last `missing` bytes of their spelling are still to come:
--- a name of which some byte is still to come is taken to rise, whatever its hash.
+-- Rows that rise behind a row, as far as can be said while the last `missing` bytes of their spelling are still to
+-- come: a name of which some byte is still to come is taken to rise, whatever its hash.
 abbrev pub AreRising : Bool → ℕ → Option Row → List Row → Type 0
 AreRising stamped missing before [] = Unit {0}
 AreRising stamped missing before (row ∷ rows) =
-    (missing ≤ length (attr_spelling stamped row.attr ++ flat_map (row_spelling stamped) rows) → comes_after before row.name ≡ true) × AreRising stamped missing (Some row) rows
+    (missing ≤ length (attr_spelling stamped row.attr ++ flat_map (row_spelling stamped) rows)
+    → comes_after before row.name ≡ true) × AreRising stamped missing (Some row) rows

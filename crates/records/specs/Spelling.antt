@@ -1,9 +1,11 @@
 -- Records as bytes: which records have a spelling, and the one spelling of each. It knows no reader and no writer.
-use Rattle.std.specs.Prelude.{◌≡◌, ℕ, ◌+◌, ◌-◌, ◌<◌, ◌≤◌, ◌^◌, List, [], ◌∷◌, ◌++◌, length, take, Option, Some, None, Result, Err, IsTrue, Bool, true, false}
+use Rattle.std.specs.Prelude.{◌≡◌, ℕ, ◌+◌, ◌-◌, ◌<◌, ◌≤◌, ◌^◌, List, [], ◌∷◌, ◌++◌, length, take, Option, Some, None}
+use Rattle.std.specs.Prelude.{Result, Err, IsTrue, Bool, true, false}
 use Rattle.std.specs.Int.{w16, w32, w64, to_be_bytes}
 use Rattle.mds_base.specs.declared.attr.Stamp.{Stamp}
 use Rattle.mds_base.specs.declared.call.Call.{Call}
-use Rattle.mds_base.specs.declared.call.Call.TheVariants.{Create, Mkdir, Remove, Setattr, Grab, Load, Link, Seal, Unseal, Kill, Unlink}
+use Rattle.mds_base.specs.declared.call.Call.TheVariants.{Create, Mkdir, Remove, Setattr, Grab, Load, Link, Seal}
+use Rattle.mds_base.specs.declared.call.Call.TheVariants.{Unseal, Kill, Unlink}
 use Rattle.mds_base.specs.declared.reply.Final.{Final}
 use Rattle.mds_base.specs.declared.reply.Reply.TheVariants.{Said}
 use Rattle.mds_base.specs.Calls.{CallOn, OnName, OnDirectory, OnPartition, asked_of, is_well_made}
@@ -41,7 +43,8 @@ is_change (OnName dir name changes) = changes
 is_change (OnDirectory dir) = false
 is_change (OnPartition dir part) = true
 
--- the parts of a call are what its types allow: its name, the size and the stamp that a setattr sets, the rows of a load
+-- the parts of a call are what its types allow: its name, the size and the stamp that a setattr sets, the rows of a
+-- load
 abbrev pub IsNamed : CallOn → Type 0
 IsNamed (OnName dir name changes) = IsTrue (is_name name)
 IsNamed on = Unit {0}
@@ -103,7 +106,8 @@ IsRecordBut missing (Head format servers server threshold) = IsHead format serve
 IsRecordBut missing records.Opened = Unit {0}
 IsRecordBut missing (Served client seq part call said) = IsServed missing client seq part call said
 IsRecordBut missing (Begin dir part depth) = IsSplit dir part depth
-IsRecordBut missing (Install dir part depth bitmap sessions rows) = IsInstall missing dir part depth bitmap sessions rows
+IsRecordBut missing (Install dir part depth bitmap sessions rows) =
+    IsInstall missing dir part depth bitmap sessions rows
 IsRecordBut missing (End dir part depth) = IsSplit dir part depth
 
 -- a record that has a spelling
@@ -117,15 +121,24 @@ abbrev pub call_spelling : Call → List ℕ
 call_spelling (Create dir name) = kinds.CALL_CREATE ∷ (to_be_bytes w64 dir ++ name_spelling name)
 call_spelling (Mkdir dir name) = kinds.CALL_MKDIR ∷ (to_be_bytes w64 dir ++ name_spelling name)
 call_spelling (Remove dir name) = kinds.CALL_REMOVE ∷ (to_be_bytes w64 dir ++ name_spelling name)
-call_spelling (Setattr dir name mode size None) = kinds.CALL_SETATTR ∷ (to_be_bytes w64 dir ++ (name_spelling name ++ (to_be_bytes w16 mode ++ to_be_bytes w64 size)))
-call_spelling (Setattr dir name mode size (Some stamp)) = kinds.CALL_STAMP ∷ (to_be_bytes w64 dir ++ (name_spelling name ++ (to_be_bytes w16 mode ++ (to_be_bytes w64 size ++ (to_be_bytes w32 stamp.owner ++ to_be_bytes w64 stamp.mtime)))))
-call_spelling (Grab dir name count) = kinds.CALL_GRAB ∷ (to_be_bytes w64 dir ++ (name_spelling name ++ to_be_bytes w32 count))
+call_spelling (Setattr dir name mode size None) =
+    kinds.CALL_SETATTR ∷ (to_be_bytes w64 dir ++ (name_spelling name ++ (to_be_bytes w16 mode ++ to_be_bytes w64 size)))
+call_spelling (Setattr dir name mode size (Some stamp)) = kinds.CALL_STAMP
+    ∷ (to_be_bytes w64 dir
+    ++ (name_spelling name
+    ++ (to_be_bytes w16 mode
+    ++ (to_be_bytes w64 size ++ (to_be_bytes w32 stamp.owner ++ to_be_bytes w64 stamp.mtime)))))
+call_spelling (Grab dir name count) =
+    kinds.CALL_GRAB ∷ (to_be_bytes w64 dir ++ (name_spelling name ++ to_be_bytes w32 count))
 call_spelling (Load dir rows) = kinds.CALL_LOAD ∷ (to_be_bytes w64 dir ++ rows_spelling false rows)
 call_spelling (Link dir name id) = kinds.CALL_LINK ∷ (to_be_bytes w64 dir ++ (name_spelling name ++ to_be_bytes w64 id))
-call_spelling (Seal dir part epoch) = kinds.CALL_SEAL ∷ (to_be_bytes w64 dir ++ (to_be_bytes w32 part ++ to_be_bytes w64 epoch))
-call_spelling (Unseal dir part epoch) = kinds.CALL_UNSEAL ∷ (to_be_bytes w64 dir ++ (to_be_bytes w32 part ++ to_be_bytes w64 epoch))
+call_spelling (Seal dir part epoch) =
+    kinds.CALL_SEAL ∷ (to_be_bytes w64 dir ++ (to_be_bytes w32 part ++ to_be_bytes w64 epoch))
+call_spelling (Unseal dir part epoch) =
+    kinds.CALL_UNSEAL ∷ (to_be_bytes w64 dir ++ (to_be_bytes w32 part ++ to_be_bytes w64 epoch))
 call_spelling (Kill dir epoch) = kinds.CALL_KILL ∷ (to_be_bytes w64 dir ++ to_be_bytes w64 epoch)
-call_spelling (Unlink dir name id) = kinds.CALL_UNLINK ∷ (to_be_bytes w64 dir ++ (name_spelling name ++ to_be_bytes w64 id))
+call_spelling (Unlink dir name id) =
+    kinds.CALL_UNLINK ∷ (to_be_bytes w64 dir ++ (name_spelling name ++ to_be_bytes w64 id))
 call_spelling call = []
 
 -- the directory, the partition and the depth of a split
@@ -139,12 +152,16 @@ install_kind true = kinds.RECORD_INSTALL_STAMPED
 
 -- the kind of a record, and its fields
 abbrev pub record_spelling : Record → List ℕ
-record_spelling (Head format servers server threshold) = kinds.RECORD_HEAD ∷ format ∷ (to_be_bytes w32 servers ++ (to_be_bytes w32 server ++ to_be_bytes w32 threshold))
+record_spelling (Head format servers server threshold) =
+    kinds.RECORD_HEAD ∷ format ∷ (to_be_bytes w32 servers ++ (to_be_bytes w32 server ++ to_be_bytes w32 threshold))
 record_spelling records.Opened = kinds.RECORD_OPENED ∷ []
-record_spelling (Served client seq part call said) = kinds.RECORD_SERVED ∷ (to_be_bytes w32 client ++ (to_be_bytes w64 seq ++ (to_be_bytes w32 part ++ (call_spelling call ++ final_spelling said))))
+record_spelling (Served client seq part call said) = kinds.RECORD_SERVED
+    ∷ (to_be_bytes w32 client
+    ++ (to_be_bytes w64 seq ++ (to_be_bytes w32 part ++ (call_spelling call ++ final_spelling said))))
 record_spelling (Begin dir part depth) = kinds.RECORD_BEGIN ∷ split_spelling dir part depth
 record_spelling (End dir part depth) = kinds.RECORD_END ∷ split_spelling dir part depth
-record_spelling (Install dir part depth bitmap sessions rows) = install_kind (some_stamped_of rows) ∷ install_spelling dir part depth bitmap sessions rows
+record_spelling (Install dir part depth bitmap sessions rows) =
+    install_kind (some_stamped_of rows) ∷ install_spelling dir part depth bitmap sessions rows
 
 -- these bytes spell the record, as far as can be said while the last `missing` of them are still to come
 abbrev pub SpellsBut : ℕ → List ℕ → Record → Type 0
@@ -161,10 +178,10 @@ abbrev pub IsBegun : List ℕ → Type 0
 IsBegun bytes = (more : List ℕ) × (item : Record) × (0 < length more) × SpellsBut (length more) (bytes ++ more) item
 
 -- the byte at this place is the first after which nothing can become a spelling
-pub record IsBadAt (bytes : List ℕ) (place : ℕ) : Type 0 where
-  pub within : place < length bytes
-  pub before : IsBegun (take place bytes)
-  pub after : (more : List ℕ) (item : Record) → SpellsBut (length more) (take (place + 1) bytes ++ more) item → ⊥
+pub record IsBadAt (bytes : List ℕ) (offset : ℕ) : Type 0 where
+  pub within : offset < length bytes
+  pub before : IsBegun (take offset bytes)
+  pub after : (more : List ℕ) (item : Record) → SpellsBut (length more) (take (offset + 1) bytes ++ more) item → ⊥
 
 -- it is this answer, unless memory ran out
 abbrev pub GivesOrMemory : Result (Record × ℕ) RecordFault → Result (Record × ℕ) RecordFault → Type 0

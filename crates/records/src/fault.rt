@@ -13,8 +13,8 @@ pub enum RecordFault {
     /// The byte at this place is the first after which no spelling can follow.
     #[error("no record, from the byte at this place on")]
     Bad {
-        /// The place, counted from 0.
-        place: u64,
+        /// The offset, counted from 0.
+        offset: u64,
     },
     /// There was no memory for the record.
     #[error("out of memory")]

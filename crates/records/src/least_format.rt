@@ -1,5 +1,6 @@
 ghost use Rattle.std.specs.Prelude.{◌≡◌};
-ghost use Rattle.records.specs.LeastFormats.{least_format, least_format_of_call, least_format_of_final, some_stamped_of};
+ghost use Rattle.records.specs.LeastFormats.{least_format, least_format_of_call, least_format_of_final};
+ghost use Rattle.records.specs.LeastFormats.{some_stamped_of};
 
 use crate::record::Record;
 use mds_base::{Call, Final, Row};

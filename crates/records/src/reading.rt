@@ -1,4 +1,5 @@
-ghost use Rattle.std.specs.Prelude.{◌≡◌, ℕ, ◌≤◌, ◌<◌, ◌^◌, ◌-◌, List, [], ◌++◌, length, take, min, IfOk, IsErrOf, MatchOption};
+ghost use Rattle.std.specs.Prelude.{◌≡◌, ℕ, ◌≤◌, ◌<◌, ◌^◌, ◌-◌, List, [], ◌++◌, length, take, min, IfOk, IsErrOf};
+ghost use Rattle.std.specs.Prelude.{MatchOption};
 ghost use Rattle.std.specs.Option.{option_copied};
 ghost use Rattle.records.specs.Rows.{last_of, comes_after};
 ghost use Rattle.std.specs.Prelude.{◌&&◌, ◌==◌, if◌then◌else◌};
@@ -6,7 +7,10 @@ ghost use Rattle.records.specs.declared.kinds.TheConstants.{FINAL_LOADED};
 ghost use Rattle.records.specs.declared.record.Record.{Record};
 ghost use Rattle.records.specs.Faults.{Gives};
 ghost use Rattle.records.specs.Spelling.{Spells, IsBegun, IsBadAt, GivesOrMemory};
-ghost use Rattle.records.specs.Reading.{byte_where, byte_among, number_at, from_foreign, text_at, name_at, rising_at, row_with, stamp_at, attr_at, must_be_stamped, row_at, list_after, rows_at, set_after, named_after, other_after, call_after, call_at, tags_of, least_of, most_of, final_of, is_low, sealed_at, final_at};
+ghost use Rattle.records.specs.Reading.{byte_where, byte_among, number_at, from_foreign, text_at, name_at, rising_at};
+ghost use Rattle.records.specs.Reading.{row_with, stamp_at, attr_at, must_be_stamped, row_at, list_after, rows_at};
+ghost use Rattle.records.specs.Reading.{set_after, named_after, other_after, call_after, call_at, tags_of, least_of};
+ghost use Rattle.records.specs.Reading.{most_of, final_of, is_low, sealed_at, final_at};
 ghost use Rattle.records.specs.ReadingRecords.{head_at, served_at, is_depth, split_at, record_at};
 
 use crate::fault::{Fault, RecordFault, Stop};
@@ -96,7 +100,8 @@ fn text(alloc: Global, len: usize, bytes: &[u8]) -> Result<(Name, &[u8]), Stop>
 
 // How many bytes there are from the first one on that stands in no name.
 fn foreign(bytes: &[u8]) -> Option<usize>
-    ensures { MatchOption result (from_foreign bytes.now ≡ []) (λ left. (0 < left) × (left ≤ length bytes.now) × (length (from_foreign bytes.now) ≡ left)) }
+    ensures { MatchOption result (from_foreign bytes.now ≡ [])
+        (λ left. (0 < left) × (left ≤ length bytes.now) × (length (from_foreign bytes.now) ≡ left)) }
 {
     for (place, byte) in bytes.iter().enumerate() {
         if *byte == b'/' || *byte == 0 {
@@ -597,29 +602,31 @@ pub fn read(alloc: Global, bytes: &[u8]) -> Result<(Record, usize), RecordFault>
     ensures found { IfOk result (λ x. (x.1 ≤ length bytes.now) × Spells (take x.1 bytes.now) x.0) }
 
     // What is spelled at the front is read, unless memory runs out.
-    ensures only { (len : ℕ) → (item : Record) → len ≤ length bytes.now → Spells (take len bytes.now) item → GivesOrMemory result (Ok (item, len)) }
+    ensures only { (len : ℕ) → (item : Record) → len ≤ length bytes.now → Spells (take len bytes.now) item
+        → GivesOrMemory result (Ok (item, len)) }
 
     // The faults, and when each of them comes.
     ensures short { IsErrOf result RecordFault.Short → IsBegun bytes.now }
     ensures short_only { IsBegun bytes.now → GivesOrMemory result (Err RecordFault.Short) }
-    ensures bad { (place : ℕ) → IsErrOf result (RecordFault.Bad place) → IsBadAt bytes.now place }
-    ensures bad_only { (place : ℕ) → IsBadAt bytes.now place → GivesOrMemory result (Err (RecordFault.Bad place)) }
+    ensures bad { (offset : ℕ) → IsErrOf result (RecordFault.Bad offset) → IsBadAt bytes.now offset }
+    ensures bad_only { (offset : ℕ) → IsBadAt bytes.now offset → GivesOrMemory result (Err (RecordFault.Bad offset)) }
 {
     match record(alloc, bytes) {
         Ok((item, rest)) => Ok((item, bytes.len() - rest.len())),
         Err(Stop::Memory) => Err(RecordFault::OutOfMemory),
         Err(Stop::Fault(Fault::Short)) => Err(RecordFault::Short),
         Err(Stop::Fault(Fault::Bad(left))) => Err(RecordFault::Bad {
-            place: (bytes.len() - left) as u64,
+            offset: (bytes.len() - left) as u64,
         }),
     }
 }
 
-/// The laws of the spellings of records (`docs/DEFINITIONS.md`, "Spelling"), for all records.
+/// The laws of the spellings of records (`crates/records/README.md`, "Spelling"), for all records.
 pub fn laws_of_spellings()
     // A record that has a spelling has one.
     ensures one { (a b : List ℕ) → (item : Record) → Spells a item → Spells b item → a ≡ b }
 
     // Bytes spell one record, and no spelling is a proper prefix of another.
-    ensures no_prefix { (bytes more : List ℕ) → (a b : Record) → Spells bytes a → Spells (bytes ++ more) b → (more ≡ []) × (a ≡ b) }
+    ensures no_prefix { (bytes more : List ℕ) → (a b : Record) → Spells bytes a → Spells (bytes ++ more) b
+        → (more ≡ []) × (a ≡ b) }
 {}

@@ -1,11 +1,15 @@
 //! Reading what the child of a split is made from.
-ghost use Rattle.std.specs.Prelude.{◌≡◌, ℕ, suc, ◌≤◌, ◌<◌, ◌^◌, ◌-◌, ◌+◌, ◌*◌, ◌==◌, ◌||◌, List, [], ◌∷◌, ◌++◌, length, take, get_or, IfOk, if◌then◌else◌};
+ghost use Rattle.std.specs.Prelude.{◌≡◌, ℕ, suc, ◌≤◌, ◌<◌, ◌^◌, ◌-◌, ◌+◌, ◌*◌, ◌==◌, ◌||◌, List, [], ◌∷◌, ◌++◌, length};
+ghost use Rattle.std.specs.Prelude.{take, get_or, IfOk, if◌then◌else◌};
 ghost use Rattle.std.specs.Int.{bit_at};
 ghost use Rattle.bitmap.specs.Words.{passing, set_of};
 ghost use Rattle.records.specs.declared.kinds.TheConstants.{FINAL_LOADED};
 ghost use Rattle.records.specs.Faults.{Gives};
 ghost use Rattle.records.specs.Reading.{byte_where, list_after};
-ghost use Rattle.records.specs.ReadingInstalls.{bit_in, has_under, has_required, may_stand, is_grown, may_grow, bitmap_at, least_with, most_with, numbered_at, some_final_at, client_after, last_session, session_in, session_at, sessions_at, is_child_depth, child_at, install_at};
+ghost use Rattle.records.specs.ReadingInstalls.{bit_in, has_under, has_required, may_stand, is_grown, may_grow};
+ghost use Rattle.records.specs.ReadingInstalls.{bitmap_at, least_with, most_with, numbered_at, some_final_at};
+ghost use Rattle.records.specs.ReadingInstalls.{client_after, last_session, session_in, session_at, sessions_at};
+ghost use Rattle.records.specs.ReadingInstalls.{is_child_depth, child_at, install_at};
 
 use crate::boxed::BoxedBitmap;
 use crate::fault::{Fault, Stop};
@@ -91,7 +95,8 @@ fn may_grow(bytes: &[u8], place: usize) -> bool
 }
 
 fn bitmap_bytes(bytes: &[u8]) -> Result<(&[u8], &[u8]), Stop>
-    ensures { Gives (λ x. (x.0.now, x.1.now)) result (list_after (λ so_far left. byte_where (may_grow so_far)) [] 128 bytes.now) }
+    ensures { Gives (λ x. (x.0.now, x.1.now)) result
+        (list_after (λ so_far left. byte_where (may_grow so_far)) [] 128 bytes.now) }
 {
     for place in 0..BITMAP_BYTES {
         if bytes.len() <= place {

@@ -5,7 +5,8 @@ ghost use Rattle.mds_base.specs.declared.call.Call.TheVariants.{Setattr};
 ghost use Rattle.records.specs.declared.kinds.TheConstants.{CALL_KILL, CALL_LOAD};
 ghost use Rattle.records.specs.Rows.{IsRow, name_spelling, attr_spelling, row_spelling, rows_spelling};
 ghost use Rattle.records.specs.Writing.{OnlyGrows};
-ghost use Rattle.records.specs.Spelling.{IsChange, IsNumbered, IsRecord, call_spelling, tag_of, number_of, final_spelling, split_spelling, record_spelling};
+ghost use Rattle.records.specs.Spelling.{IsChange, IsNumbered, IsRecord, call_spelling, tag_of, number_of};
+ghost use Rattle.records.specs.Spelling.{final_spelling, split_spelling, record_spelling};
 
 use crate::kinds::{
     CALL_CREATE, CALL_GRAB, CALL_KILL, CALL_LINK, CALL_LOAD, CALL_MKDIR, CALL_REMOVE, CALL_SEAL,
@@ -83,7 +84,9 @@ fn put_start(out: &mut Vec<u8>, kind: u8, dir: u64, name: &Name) -> Result<(), A
 
 // A call that seals a partition or takes a seal off.
 fn put_seal(out: &mut Vec<u8>, kind: u8, dir: u64, part: u32, epoch: u64) -> Result<(), AllocError>
-    ensures ok { OnOk result (out.new.items ≡ out.old.items ++ kind ∷ (to_be_bytes w64 dir ++ (to_be_bytes w32 part ++ to_be_bytes w64 epoch))) }
+    ensures ok { OnOk result
+        (out.new.items
+        ≡ out.old.items ++ kind ∷ (to_be_bytes w64 dir ++ (to_be_bytes w32 part ++ to_be_bytes w64 epoch))) }
     ensures grows { OnlyGrows out.old.items out.new.items }
 {
     put_byte(out, kind)?;
@@ -94,7 +97,8 @@ fn put_seal(out: &mut Vec<u8>, kind: u8, dir: u64, part: u32, epoch: u64) -> Res
 
 // A call that kills a directory.
 fn put_kill(out: &mut Vec<u8>, dir: u64, epoch: u64) -> Result<(), AllocError>
-    ensures ok { OnOk result (out.new.items ≡ out.old.items ++ CALL_KILL ∷ (to_be_bytes w64 dir ++ to_be_bytes w64 epoch)) }
+    ensures ok { OnOk result
+        (out.new.items ≡ out.old.items ++ CALL_KILL ∷ (to_be_bytes w64 dir ++ to_be_bytes w64 epoch)) }
     ensures grows { OnlyGrows out.old.items out.new.items }
 {
     put_byte(out, CALL_KILL)?;
@@ -111,7 +115,8 @@ fn put_set(
     size: u64,
     stamp: &Option<Stamp>,
 ) -> Result<(), AllocError>
-    ensures ok { OnOk result (out.new.items ≡ out.old.items ++ call_spelling (Setattr dir name.now mode size stamp.now)) }
+    ensures ok { OnOk result
+        (out.new.items ≡ out.old.items ++ call_spelling (Setattr dir name.now mode size stamp.now)) }
     ensures grows { OnlyGrows out.old.items out.new.items }
 {
     match stamp {
@@ -130,7 +135,8 @@ fn put_set(
 
 // The size of a call that sets a stamp, and the stamp's owner and time.
 fn put_stamped(out: &mut Vec<u8>, size: u64, owner: u32, mtime: u64) -> Result<(), AllocError>
-    ensures ok { OnOk result (out.new.items ≡ out.old.items ++ (to_be_bytes w64 size ++ (to_be_bytes w32 owner ++ to_be_bytes w64 mtime))) }
+    ensures ok { OnOk result
+        (out.new.items ≡ out.old.items ++ (to_be_bytes w64 size ++ (to_be_bytes w32 owner ++ to_be_bytes w64 mtime))) }
     ensures grows { OnlyGrows out.old.items out.new.items }
 {
     put_u64(out, size)?;
@@ -149,7 +155,8 @@ fn put_stamp(out: &mut Vec<u8>, owner: u32, mtime: u64) -> Result<(), AllocError
 
 // The directory, the mode and the size of attributes.
 fn put_numbered(out: &mut Vec<u8>, dir: u64, mode: u16, size: u64) -> Result<(), AllocError>
-    ensures ok { OnOk result (out.new.items ≡ out.old.items ++ (to_be_bytes w64 dir ++ (to_be_bytes w16 mode ++ to_be_bytes w64 size))) }
+    ensures ok { OnOk result
+        (out.new.items ≡ out.old.items ++ (to_be_bytes w64 dir ++ (to_be_bytes w16 mode ++ to_be_bytes w64 size))) }
     ensures grows { OnlyGrows out.old.items out.new.items }
 {
     put_u64(out, dir)?;
@@ -204,7 +211,8 @@ pub(crate) fn put_rows(out: &mut Vec<u8>, stamped: bool, rows: &[Row]) -> Result
 fn put_load(out: &mut Vec<u8>, dir: u64, rows: &[Row]) -> Result<(), AllocError>
     requires few { length rows.now < 2 ^ 32 }
     requires each { AllByRecursion (IsRow false) rows.now }
-    ensures ok { OnOk result (out.new.items ≡ out.old.items ++ CALL_LOAD ∷ (to_be_bytes w64 dir ++ rows_spelling false rows.now)) }
+    ensures ok { OnOk result
+        (out.new.items ≡ out.old.items ++ CALL_LOAD ∷ (to_be_bytes w64 dir ++ rows_spelling false rows.now)) }
     ensures grows { OnlyGrows out.old.items out.new.items }
 {
     put_byte(out, CALL_LOAD)?;
@@ -295,7 +303,8 @@ pub(crate) fn put_final(out: &mut Vec<u8>, said: &Final) -> Result<(), AllocErro
 
 // The numbers of a change.
 fn put_numbers(out: &mut Vec<u8>, client: u32, seq: u64, part: u32) -> Result<(), AllocError>
-    ensures ok { OnOk result (out.new.items ≡ out.old.items ++ (to_be_bytes w32 client ++ (to_be_bytes w64 seq ++ to_be_bytes w32 part))) }
+    ensures ok { OnOk result
+        (out.new.items ≡ out.old.items ++ (to_be_bytes w32 client ++ (to_be_bytes w64 seq ++ to_be_bytes w32 part))) }
     ensures grows { OnlyGrows out.old.items out.new.items }
 {
     put_u32(out, client)?;

@@ -2,7 +2,8 @@
 ghost use Rattle.std.specs.Prelude.{◌≡◌, ℕ, ◌<◌, ◌≤◌, ◌+◌, ◌*◌, ◌^◌, ◌++◌, ◌∷◌, length, OnOk, if◌then◌else◌};
 ghost use Rattle.std.specs.List.{AllByRecursion, flat_map};
 ghost use Rattle.bitmap.specs.Bits.{has};
-ghost use Rattle.records.specs.Installs.{bitmap_byte, bitmap_spelling, session_spelling, sessions_spelling, IsSession, IsInstall, install_spelling};
+ghost use Rattle.records.specs.Installs.{bitmap_byte, bitmap_spelling, session_spelling, sessions_spelling, IsSession};
+ghost use Rattle.records.specs.Installs.{IsInstall, install_spelling};
 ghost use Rattle.records.specs.LeastFormats.{some_stamped_of};
 ghost use Rattle.records.specs.Writing.{OnlyGrows};
 ghost use Rattle.records.specs.Spelling.{install_kind};
@@ -99,7 +100,10 @@ pub(crate) fn put_install(
     rows: &[Row],
 ) -> Result<(), AllocError>
     requires { IsInstall 0 dir part depth bitmap.now sessions.now rows.now }
-    ensures ok { OnOk result (out.new.items ≡ out.old.items ++ install_kind (some_stamped_of rows.now) ∷ install_spelling dir part depth bitmap.now sessions.now rows.now) }
+    ensures ok { OnOk result
+        (out.new.items
+        ≡ out.old.items ++ install_kind (some_stamped_of rows.now)
+        ∷ install_spelling dir part depth bitmap.now sessions.now rows.now) }
     ensures grows { OnlyGrows out.old.items out.new.items }
 {
     let stamped = some_stamped(rows);

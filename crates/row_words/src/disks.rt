@@ -10,8 +10,8 @@ use std::fmt::Write;
 /// How often a row is run at most.
 pub const RUNS: u64 = 100;
 
-/// `disk OUTCOME FAILS ACTION; ..` on a new disk, and `each OUTCOME FAILS ACTION; ..`, which is run for each K from 0 on
-/// up to the first run in which no call failed.
+/// `disk OUTCOME FAILS ACTION; ..` on a new disk, and `each OUTCOME FAILS ACTION; ..`, which is run for each K from 0
+/// on up to the first run in which no call failed.
 pub fn disk_row(alloc: Global, mut words: Words<'_>) -> Answer {
     match words.word()? {
         "disk" => run(alloc, words),

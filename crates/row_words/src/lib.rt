@@ -1,8 +1,8 @@
 //! What the programs of rows share: how a row is read, answered and printed, and the actions on a disk in memory.
 //!
-//! A row is a line: the words of a call and its arguments. `Words` reads them, `Answer` is what the call answered as text,
-//! `RowFault` why there is no answer but this, and `reply` what is printed for a line. Nothing is promised of the texts:
-//! they are compared with tables.
+//! A row is a line: the words of a call and its arguments. `Words` reads them, `Answer` is what the call answered as
+//! text, `RowFault` why there is no answer but this, and `reply` what is printed for a line. Nothing is promised of the
+//! texts: they are compared with tables.
 #![tactic(auto)]
 
 mod disks;

@@ -20,8 +20,8 @@ pub enum RowFault {
     #[error("stopped")]
     Stopped,
     /// The file holds no log.
-    #[error("bad log at {place}")]
-    BadLog { place: u64 },
+    #[error("bad log at {offset}")]
+    BadLog { offset: u64 },
     /// There was no memory; the program ends.
     #[error("out of memory")]
     OutOfMemory,
@@ -71,7 +71,7 @@ impl From<LogFault> for RowFault {
         match fault {
             LogFault::Device => RowFault::Device,
             LogFault::Stopped => RowFault::Stopped,
-            LogFault::BadLog { place } => RowFault::BadLog { place },
+            LogFault::BadLog { offset } => RowFault::BadLog { offset },
             LogFault::OutOfMemory => RowFault::OutOfMemory,
         }
     }

@@ -13,7 +13,7 @@ pub(crate) fn answer(alloc: Global, mut words: Words<'_>) -> Answer {
     }
 }
 
-/// The record with which the bytes begin, behind its length; or `short`, or `bad` and the place.
+/// The record with which the bytes begin, behind its length; or `short`, or `bad` and the offset.
 fn read_row(alloc: Global, mut words: Words<'_>) -> Answer {
     let bytes = words.hex(alloc)?;
     words.end()?;
@@ -23,7 +23,7 @@ fn read_row(alloc: Global, mut words: Words<'_>) -> Answer {
             Ok(format!(in alloc; "{len} bytes: {said}")?)
         }
         Err(RecordFault::Short) => text(alloc, "short"),
-        Err(RecordFault::Bad { place }) => Ok(format!(in alloc; "bad {place}")?),
+        Err(RecordFault::Bad { offset }) => Ok(format!(in alloc; "bad {offset}")?),
         Err(RecordFault::OutOfMemory) => Err(RowFault::OutOfMemory),
     }
 }

@@ -1,4 +1,5 @@
-//! The program `rows_disks`: rows of streams, disks and logs whose calls fail. `crates/rows/README.md` says what a row is.
+//! The program `rows_disks`: rows of streams, disks and logs whose calls fail. `crates/rows/README.md` says what a row
+//! is.
 #![tactic(auto)]
 
 mod logging;

@@ -154,7 +154,8 @@ fn read_load(alloc: Global, mut words: Words<'_>) -> Result<Call, RowFault> {
     Ok(Call::Load { dir, rows })
 }
 
-/// A final, `found` with the attributes and `until` the end of the lease, `held` until a moment, or `old` with the kept number.
+/// A final, `found` with the attributes and `until` the end of the lease, `held` until a moment, or `old` with the kept
+/// number.
 fn step_text(alloc: Global, step: &Step) -> Answer {
     match step {
         Step::Said(reply) => reply_text(alloc, reply),

@@ -6,8 +6,8 @@ use std::alloc::{AllocError, Global};
 use std::fmt::Write;
 
 /// `walk PATH`, and behind it what an asker knows, each with its directory and name: `; DIR NAME file SIZE`,
-/// `; DIR NAME dir NUMBER`, or `; DIR NAME open` where a lookup is not answered. The answer is the verdict, and what was
-/// asked.
+/// `; DIR NAME dir NUMBER`, or `; DIR NAME open` where a lookup is not answered. The answer is the verdict, and what
+/// was asked.
 pub(crate) fn answer(alloc: Global, words: Words<'_>) -> Answer {
     let mut asker = Knowing {
         known: Vec::new(alloc),

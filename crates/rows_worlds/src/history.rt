@@ -93,8 +93,8 @@ impl History {
         }
     }
 
-    /// Whether the effects are a legal history of a plain directory, and each answered call stands among them once, with
-    /// its reply, between its issue and its answer.
+    /// Whether the effects are a legal history of a plain directory, and each answered call stands among them once,
+    /// with its reply, between its issue and its answer.
     pub(crate) fn is_right(&self, alloc: Global) -> Result<bool, AllocError> {
         let entries = self.entries(alloc)?;
         match check_history(alloc, entries.as_slice())? {

@@ -12,8 +12,8 @@ const SETUP: Setup = Setup {
     clients: 1,
 };
 
-/// `open BYTES`: the bytes are those of file 1. The next directory number and the file's bytes then; or where the disk is
-/// damaged.
+/// `open BYTES`: the bytes are those of file 1. The next directory number and the file's bytes then; or where the disk
+/// is damaged.
 pub(crate) fn answer(alloc: Global, mut words: Words<'_>) -> Answer {
     match words.word()? {
         "open" => open_row(alloc, words),
@@ -56,19 +56,19 @@ fn refused(alloc: Global, fault: StoreFault) -> Answer {
     match fault {
         StoreFault::Damaged {
             file,
-            place,
+            offset,
             damage,
-        } => damaged(alloc, file, place, damage),
+        } => damaged(alloc, file, offset, damage),
         StoreFault::Device => Err(RowFault::Device),
         StoreFault::OutOfMemory => Err(RowFault::OutOfMemory),
         StoreFault::Stopped | StoreFault::Room => Err(RowFault::Stopped),
     }
 }
 
-fn damaged(alloc: Global, file: u32, place: u64, damage: Damage) -> Answer {
+fn damaged(alloc: Global, file: u32, offset: u64, damage: Damage) -> Answer {
     match damage {
-        Damage::Spelling => Ok(format!(in alloc; "damaged at {place} of file {file}")?),
-        Damage::Head { .. } => Ok(format!(in alloc; "another head at {place} of file {file}")?),
-        Damage::Sum { .. } => Ok(format!(in alloc; "another sum at {place} of file {file}")?),
+        Damage::Spelling => Ok(format!(in alloc; "damaged at {offset} of file {file}")?),
+        Damage::Head { .. } => Ok(format!(in alloc; "another head at {offset} of file {file}")?),
+        Damage::Sum { .. } => Ok(format!(in alloc; "another sum at {offset} of file {file}")?),
     }
 }

@@ -10,9 +10,9 @@ use row_words::{Answer, RowFault, Words};
 use std::alloc::{AllocError, Global};
 use world::{Event, ServeEnd, StopCause, World};
 
-/// `runs FIRST LAST EVENTS SERVERS CLIENTS ANSWERS EFFECTS`: of each seed from FIRST to LAST a schedule of so many random
-/// events, of which those that are enabled happen. `ok` where each history is right, and all have at least so many answers
-/// and effects; else the seed whose history is wrong, or how few there are.
+/// `runs FIRST LAST EVENTS SERVERS CLIENTS ANSWERS EFFECTS`: of each seed from FIRST to LAST a schedule of so many
+/// random events, of which those that are enabled happen. `ok` where each history is right, and all have at least so
+/// many answers and effects; else the seed whose history is wrong, or how few there are.
 pub(crate) fn answer(alloc: Global, mut words: Words<'_>) -> Answer {
     match words.word()? {
         "runs" => runs_row(alloc, words),
@@ -155,8 +155,8 @@ fn random_place(dice: &mut Dice, sent: &MsgList) -> u64 {
 }
 
 /// The server to which a message goes, or the client.
-fn receiver(sent: &MsgList, place: u64) -> u32 {
-    match sent.get(place as usize) {
+fn receiver(sent: &MsgList, message: u64) -> u32 {
+    match sent.get(message as usize) {
         Some(Msg::Request { server, .. }) => *server,
         Some(Msg::Answer { client, .. }) => *client,
         _ => 0,
@@ -168,19 +168,19 @@ fn random_event(alloc: Global, dice: &mut Dice, world: &World) -> Result<Event, 
     let setup = world.setup();
     let client = 1 + dice.below(u64::from(setup.clients)) as u32;
     let server = dice.below(u64::from(setup.servers)) as u32;
-    let place = random_place(dice, world.sent());
+    let message = random_place(dice, world.sent());
     match dice.below(26) {
         0..=5 => Ok(Event::Issue {
             client,
             call: random_call(alloc, dice)?,
         }),
         6 => Ok(Event::Resend { client }),
-        7..=13 => random_serve(alloc, dice, receiver(world.sent(), place), place),
+        7..=13 => random_serve(alloc, dice, receiver(world.sent(), message), message),
         14..=18 => Ok(Event::Take {
-            client: receiver(world.sent(), place),
-            place,
+            client: receiver(world.sent(), message),
+            message,
         }),
-        number => Ok(rare_event(dice, number, client, server, place)),
+        number => Ok(rare_event(dice, number, client, server, message)),
     }
 }
 
@@ -188,10 +188,10 @@ fn random_serve(
     alloc: Global,
     dice: &mut Dice,
     server: u32,
-    place: u64,
+    message: u64,
 ) -> Result<Event, RowFault> {
     let mut places = PlaceList::new(alloc);
-    places.push(place)?;
+    places.push(message)?;
     let how = if dice.below(5) == 0 {
         ServeEnd::Stop
     } else {
@@ -204,7 +204,7 @@ fn random_serve(
     })
 }
 
-fn rare_event(dice: &mut Dice, number: u64, client: u32, server: u32, place: u64) -> Event {
+fn rare_event(dice: &mut Dice, number: u64, client: u32, server: u32, message: u64) -> Event {
     match number {
         19 => Event::Stop {
             server,
@@ -214,7 +214,7 @@ fn rare_event(dice: &mut Dice, number: u64, client: u32, server: u32, place: u64
             server,
             kept: dice.below(2) as u32,
         },
-        22 => Event::Miss { place },
+        22 => Event::Miss { message },
         23 => Event::Hint {
             client,
             dir: 1 + dice.below(3),
@@ -248,11 +248,11 @@ fn happen(
     match event {
         Event::Issue { client, .. } => note_issued(world, history, *client, number),
         Event::Serve { places, .. } => {
-            let place = places.places().first().copied();
-            note_served(alloc, world.sent(), history, place, first, number)
+            let message = places.places().first().copied();
+            note_served(alloc, world.sent(), history, message, first, number)
         }
-        Event::Take { client, place } => {
-            note_taken(alloc, world, history, *client, *place, number)
+        Event::Take { client, message } => {
+            note_taken(alloc, world, history, *client, *message, number)
         }
         _ => Ok(()),
     }
@@ -326,11 +326,11 @@ fn note_served(
     alloc: Global,
     sent: &MsgList,
     history: &mut History,
-    place: Option<u64>,
+    message: Option<u64>,
     first: usize,
     event: u32,
 ) -> Result<(), RowFault> {
-    let Some(Msg::Request { ask, .. }) = place.and_then(|place| sent.get(place as usize)) else {
+    let Some(Msg::Request { ask, .. }) = message.and_then(|at| sent.get(at as usize)) else {
         return Ok(());
     };
     let Some(Msg::Answer { reply, .. }) = sent.get(first) else {
@@ -355,25 +355,25 @@ fn note_served(
     Ok(())
 }
 
-/// A client took the message at this place: where it has no open call then, the call was answered by it.
+/// A client took the message of this number: where it has no open call then, the call was answered by it.
 fn note_taken(
     alloc: Global,
     world: &World,
     history: &mut History,
     client: u32,
-    place: u64,
+    message: u64,
     event: u32,
 ) -> Result<(), RowFault> {
     if open_call(world, client).is_some() {
         return Ok(());
     }
-    let Some(Msg::Answer { seq, reply, .. }) = world.sent().get(place as usize) else {
+    let Some(Msg::Answer { seq, reply, .. }) = world.sent().get(message as usize) else {
         return Ok(());
     };
     if !history.is_open(client, *seq) {
         return Ok(());
     }
     let reply = reply.copy(alloc)?;
-    history.answered(client, *seq, event, place, reply);
+    history.answered(client, *seq, event, message, reply);
     Ok(())
 }

@@ -10,5 +10,6 @@ pub fn laws_of_scans()
 
     // No row that was listed is left for later pages.
     ensures behind { (pages : List Page) → ArePages pages (Some start)
-        → AllByRecursion (λ row. is_left (after_pages new_scan pages).next row ≡ false) (after_pages new_scan pages).listed }
+        → AllByRecursion (λ row. is_left (after_pages new_scan pages).next row ≡ false)
+        (after_pages new_scan pages).listed }
 {}

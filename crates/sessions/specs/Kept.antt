@@ -20,7 +20,8 @@ seq_of (Some kept) = kept.seq
 -- how a change with this number stands to what is kept of its client
 abbrev pub judge_kept : Option Kept → ℕ → Judged
 judge_kept None seq = New
-judge_kept (Some kept) seq = if nat_lt kept.seq seq then New else (if kept.seq == seq then Again kept.said else Old kept.seq)
+judge_kept (Some kept) seq =
+    if nat_lt kept.seq seq then New else (if kept.seq == seq then Again kept.said else Old kept.seq)
 
 abbrev pub judged : SessionMap → ℕ → ℕ → Judged
 judged sessions client seq = judge_kept (map.get sessions client) seq

@@ -46,7 +46,7 @@ pub enum Judged {
 }
 
 /// The sessions of a partition: a finite map from clients to the numbers and the replies of their last changes
-/// there (`docs/DEFINITIONS.md`, "Sessions"). A look-up and a note take a time that grows with the logarithm of
+/// there (`crates/sessions/README.md`, "Sessions"). A look-up and a note take a time that grows with the logarithm of
 /// the number of clients.
 #[derive(Debug, Drop)]
 pub struct Sessions {
@@ -166,7 +166,8 @@ impl Sessions {
 
 // Puts a client's session in place of the one that is kept, where one is.
 fn put_over(held: &mut BTreeMap<u32, Kept>, client: u32, kept: Kept)
-    ensures { map.from_entries {R = nat_cmp} held.new.entries ≡ restored (map.from_entries held.old.entries) client (Some kept) }
+    ensures { map.from_entries {R = nat_cmp} held.new.entries
+        ≡ restored (map.from_entries held.old.entries) client (Some kept) }
 {
     if let Some(slot) = held.get_mut(&client) {
         *slot = kept;

@@ -1,6 +1,6 @@
 use Rattle.std.proofs.Common.{sym, ap, subst, length, length-append, ◌∷◌, [], arith}
 use Rattle.mds_cli.specs.Fresh.{AreNewMemories}
-use Rattle.mds_cli.proofs.Newly.{memories_push}
+use Rattle.mds_cli.proofs.DisksNew.{memories_push}
 use Rattle.mds_app.proofs.new_disks.Goals as goal
 
 pub loop-preserved : goal.loop-preserved
