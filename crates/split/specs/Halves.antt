@@ -1,5 +1,6 @@
 -- The half of a partition that a split moves, on the rows of a server.
-use Rattle.std.specs.Prelude.{◌≡◌, ℕ, suc, ◌+◌, ◌^◌, ◌%◌, ◌/◌, ◌==◌, ◌&&◌, Bool, true, false, if◌then◌else◌, List, [], ◌∷◌, ◌++◌, map, fold, Option, Some, None, IsSome}
+use Rattle.std.specs.Prelude.{◌≡◌, ℕ, suc, ◌+◌, ◌^◌, ◌%◌, ◌/◌, ◌==◌, ◌&&◌, Bool, true, false, if◌then◌else◌, List, []}
+use Rattle.std.specs.Prelude.{◌∷◌, ◌++◌, map, fold, Option, Some, None, IsSome}
 use Rattle.std.specs.Ordering.{is_lt}
 use Rattle.std.specs.FinMap as map
 use Rattle.chains.specs.Reversed.{first_of, last_of}
@@ -30,7 +31,10 @@ before_all rev = record { at = rev; after = None }
 -- the rows of the partition, in order, in the upper half of its range, which is the child's
 abbrev pub upper_rows : RowMap → ℕ → ℕ → ℕ → List Row
 upper_rows rows dir part depth =
-    map row_of (map.entries (map.retain_keys rows (is_in_page dir part (before_all (first_of 64 (part + 2 ^ depth))) (last_of 64 (part + 2 ^ depth) (suc depth)))))
+    map row_of (map.entries
+    (map.retain_keys rows
+    (is_in_page dir part (before_all (first_of 64 (part + 2 ^ depth)))
+    (last_of 64 (part + 2 ^ depth) (suc depth)))))
 
 -- a key is behind the one before it, where there is one
 abbrev pub is_behind : Option RowKey → RowKey → Bool
@@ -73,7 +77,8 @@ without_rows rows half = fold (λ now entry. map.remove now entry.0) rows half
 -- ---- where each row stands at the key of its name
 
 abbrev pub IsKeyed : RowMap → ℕ → ℕ → Type 0
-IsKeyed rows dir part = (key : RowKey) → key.dir ≡ dir → key.part ≡ part → IsSome (map.get rows key) → key.rev ≡ place_of key.name
+IsKeyed rows dir part =
+    (key : RowKey) → key.dir ≡ dir → key.part ≡ part → IsSome (map.get rows key) → key.rev ≡ place_of key.name
 
 -- a key of the half
 abbrev pub is_half_key : ℕ → ℕ → ℕ → RowKey → Bool

@@ -1,5 +1,6 @@
 -- A half in pieces of at most 64 rows, and the pieces that were collected.
-use Rattle.std.specs.Prelude.{ℕ, zero, suc, ◌∷◌, ◌+◌, ◌*◌, ◌/◌, ◌==◌, ◌++◌, if◌then◌else◌, List, [], take, drop, set, replicate, get_or, length, max, Option, Some, None, is_some, unwrap_or}
+use Rattle.std.specs.Prelude.{ℕ, zero, suc, ◌∷◌, ◌+◌, ◌*◌, ◌/◌, ◌==◌, ◌++◌, if◌then◌else◌, List, [], take, drop, set}
+use Rattle.std.specs.Prelude.{replicate, get_or, length, max, Option, Some, None, is_some, unwrap_or}
 use Rattle.std.specs.List.{list_all}
 use Rattle.mds_base.specs.declared.row.Row.{Row}
 

@@ -2,15 +2,16 @@
 ghost use Rattle.std.specs.Prelude.{◌≡◌, ◌<◌, ◌^◌, ◌&&◌, if◌then◌else◌, IfOk, OnOk, Some, None, length, map};
 ghost use Rattle.mds_base.specs.RowsCause.{HasRowsCause};
 ghost use Rattle.mds_base.specs.RowKeys.{row_of};
-ghost use Rattle.split.specs.Halves.{is_frozen, half_of, upper_rows, rising, is_moving, is_behind, last_key, with_rising, with_rows, without_rows};
+ghost use Rattle.split.specs.Halves.{is_frozen, half_of, upper_rows, rising, is_moving, is_behind, last_key};
+ghost use Rattle.split.specs.Halves.{with_rising, with_rows, without_rows};
 ghost use Rattle.name_hash.specs.RowPlace.{row_key};
 
 use chains::reverse;
 use mds_base::{Attr, Cursor, Name, RADIX, Row, RowKey, RowList, Rows, RowsFault, SplitState};
-use name_hash::{hash, row_key};
+use name_hash::{Hashed, row_key};
 use std::alloc::{AllocError, Global};
 
-/// Whether a hash lies in the half that a split has frozen (`docs/DEFINITIONS.md`, "Moving half").
+/// Whether a hash lies in the half that a split has frozen (`crates/split/README.md`, "Moving half").
 pub fn frozen(state: &SplitState, hash: u64) -> bool
     ensures { result ≡ is_frozen state.now hash }
 {
@@ -74,7 +75,8 @@ pub fn end<R: Rows>(
 ) -> Result<u64, RowsFault>
     requires depth { depth < RADIX }
     requires part { part < 2 ^ depth }
-    ensures taken { IfOk result (λ _. R.contents rows.new ≡ without_rows (R.contents rows.old) (half_of (R.contents rows.old) dir part depth)) }
+    ensures taken { IfOk result
+        (λ _. R.contents rows.new ≡ without_rows (R.contents rows.old) (half_of (R.contents rows.old) dir part depth)) }
     ensures count { IfOk result (λ count. count ≡ length (half_of (R.contents rows.old) dir part depth)) }
     ensures cause { HasRowsCause (R.faults rows.old) (R.faults rows.new) result }
 {
@@ -161,18 +163,15 @@ fn rising_key(
 ) -> Result<Option<RowKey>, AllocError>
     requires depth { depth < RADIX }
     requires part { part < 2 ^ depth }
-    ensures { IfOk result (λ key. key ≡ (if is_moving part depth name.now && is_behind (last_key half.now) (row_key dir part name.now) then Some (row_key dir part name.now) else None)) }
+    ensures { IfOk result
+        (λ key. key ≡ (if is_moving part depth name.now && is_behind (last_key half.now) (row_key dir part name.now)
+        then Some (row_key dir part name.now) else None)) }
 {
-    let hash = hash(name);
-    if hash % (2 << depth) != u64::from(part + (1 << depth)) {
+    let hashed = Hashed::of(name);
+    if hashed.number() % (2 << depth) != u64::from(part + (1 << depth)) {
         return Ok(None);
     }
-    let key = RowKey {
-        dir,
-        part,
-        rev: reverse(hash),
-        name: name.copy(alloc)?,
-    };
+    let key = hashed.row_key(alloc, dir, part)?;
     if !is_past_last(half, &key) {
         return Ok(None);
     }
