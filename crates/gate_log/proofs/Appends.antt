@@ -21,9 +21,9 @@ module _ (file end : ℕ) (bodies : List (List ℕ)) (body written : List ℕ) (
 
   second_image : (bytes mid : List ℕ) (images : Image → Type 0) → length body < 2 ^ 32 → IsLogOf (open_log file end) bodies bytes → mid ≡ put bytes end written → ((image : Image) → images image → image file ≡ mid) → (image : Image) → IsWrittenOver file (end - 1) 1 images image → IsBeforeOrAfter bodies body (image file)
   second_image bytes mid images fits log put_is durable image over =
-      let place : end - 1 ≡ length (log_bytes bodies) = omega (arith, log.ends) in
+      let offset : end - 1 ≡ length (log_bytes bodies) = omega (arith, log.ends) in
       let rest = drop (log_length bodies + length (framed body ++ 0 ∷ [])) bytes in
-      let torn : IsTorn (length (log_bytes bodies)) 1 (staged bodies log.holds.gate body rest) (image file) = subst (λ e. IsTorn e 1 (staged bodies log.holds.gate body rest) (image file)) place (subst (λ b. IsTorn (end - 1) 1 b (image file)) (durable over.before over.was ∙ staged_bytes bytes mid log put_is) over.changes.changed) in
+      let torn : IsTorn (length (log_bytes bodies)) 1 (staged bodies log.holds.gate body rest) (image file) = subst (λ e. IsTorn e 1 (staged bodies log.holds.gate body rest) (image file)) offset (subst (λ b. IsTorn (end - 1) 1 b (image file)) (durable over.before over.was ∙ staged_bytes bytes mid log put_is) over.changes.changed) in
       torn_gate bodies body log.holds.gate rest (image file) fits log.holds.short torn
 
   module _ {D : Type 0} (moment : D → ℕ) (since : D → ℕ → Image → Type 0) where
@@ -45,9 +45,9 @@ module _ (file end : ℕ) (bodies : List (List ℕ)) (body written : List ℕ) (
   -- the log after both writes
   opened_log : (bytes mid new : List ℕ) → length body < 2 ^ 32 → IsLogOf (open_log file end) bodies bytes → mid ≡ put bytes end written → new ≡ put mid (end - 1) (1 ∷ []) → IsLogOf (open_log file (end + 5 + length body)) (bodies ++ body ∷ []) new
   opened_log bytes mid new fits log first second =
-      let place : end - 1 ≡ length (log_bytes bodies) = omega (arith, log.ends) in
+      let offset : end - 1 ≡ length (log_bytes bodies) = omega (arith, log.ends) in
       let rest = drop (log_length bodies + length (framed body ++ 0 ∷ [])) bytes in
-      let whole : new ≡ staged bodies 1 body rest = second ∙ ap (λ e. put mid e (1 ∷ [])) place ∙ ap (λ b. put b (length (log_bytes bodies)) (1 ∷ [])) (staged_bytes bytes mid log first) ∙ written_gate bodies body log.holds.gate rest in
+      let whole : new ≡ staged bodies 1 body rest = second ∙ ap (λ e. put mid e (1 ∷ [])) offset ∙ ap (λ b. put b (length (log_bytes bodies)) (1 ∷ [])) (staged_bytes bytes mid log first) ∙ written_gate bodies body log.holds.gate rest in
       record { holds = holds_opened bodies body rest new fits log.holds.short whole; ends = omega (arith, log.ends, longer bodies body) }
 
   pub appended : (seen seen' seen'' : Option (List ℕ)) → length body < 2 ^ 32 → Tells seen seen' (λ before now. now ≡ put before end written) → Tells seen' seen'' (λ before now. now ≡ put before (end - 1) (1 ∷ []))

@@ -11,12 +11,12 @@ use Rattle.gate_log.specs.Frame.{framed}
 use Rattle.gate_log.specs.Log.{log_bytes, log_length, HoldsLog, IsBeforeOrAfter}
 
 -- a front that is the same place by place
-same_front : (old new : List ℕ) (n : ℕ) → n ≤ length old → n ≤ length new → ((place : ℕ) → place < n → get_or new place 0 ≡ get_or old place 0) → take n new ≡ take n old
+same_front : (old new : List ℕ) (n : ℕ) → n ≤ length old → n ≤ length new → ((offset : ℕ) → offset < n → get_or new offset 0 ≡ get_or old offset 0) → take n new ≡ take n old
 same_front old new n in_old in_new same = same_number_lists (take n new) (take n old) (length-take-le n new in_new ∙ sym (length-take-le n old in_old))
     (λ k here. get_or-take n new k 0 (omega (arith, length-take-le n new in_new)) ∙ same k (omega (arith, length-take-le n new in_new)) ∙ sym (get_or-take n old k 0 (omega (arith, length-take-le n new in_new))))
 
 -- a rest that is the same place by place
-same_rest : (old new : List ℕ) (n : ℕ) → length old ≡ length new → ((place : ℕ) → n ≤ place → place < length old → get_or new place 0 ≡ get_or old place 0) → drop n new ≡ drop n old
+same_rest : (old new : List ℕ) (n : ℕ) → length old ≡ length new → ((offset : ℕ) → n ≤ offset → offset < length old → get_or new offset 0 ≡ get_or old offset 0) → drop n new ≡ drop n old
 same_rest old new n sizes same = same_number_lists (drop n new) (drop n old) (omega (arith, length-drop n new, length-drop n old))
     (λ k here. get_or-drop n new k 0 ∙ same (n + k) (omega arith) (omega (arith, length-drop n new)) ∙ sym (get_or-drop n old k 0))
 
@@ -50,7 +50,7 @@ module _ (bodies : List (List ℕ)) (body : List ℕ) where
   pub torn_behind : (old new : List ℕ) (count : ℕ) → HoldsLog bodies old → IsTorn (log_length bodies) count old new → HoldsLog bodies new
   torn_behind old new count holds torn =
       let size : length old ≡ length (log_bytes bodies) + (1 + length holds.rest) = omega (arith, ap length holds.split, length-append (log_bytes bodies) (holds.gate ∷ holds.rest)) in
-      let kept : take (log_length bodies) new ≡ take (log_length bodies) old = same_front old new (log_length bodies) (omega arith) (omega (arith, torn.no_shorter)) (λ place low. torn.before place low (omega arith)) in
+      let kept : take (log_length bodies) new ≡ take (log_length bodies) old = same_front old new (log_length bodies) (omega arith) (omega (arith, torn.no_shorter)) (λ offset low. torn.before offset low (omega arith)) in
       record {
         gate = holds.gate;
         rest = drop (log_length bodies) new;
@@ -75,12 +75,12 @@ module _ (bodies : List (List ℕ)) (body : List ℕ) where
   -- each outcome of the second write keeps the log, with the body or without
   pub torn_gate : (gate : ℕ) (rest new : List ℕ) → length body < 2 ^ 32 → All (λ b. length b < 2 ^ 32) bodies → IsTorn (length (log_bytes bodies)) 1 (staged bodies gate body rest) new → IsBeforeOrAfter bodies body new
   torn_gate gate rest new fits short torn = ⊎_elim
-      (λ (open_gate : get_or new place 0 ≡ 1). inr (holds_opened rest new fits short (whole ∙ ap (λ g. staged bodies g body rest) open_gate)))
-      (λ (shut : get_or new place 0 ≢ 1). inl (holds_staged (get_or new place 0) rest new shut short whole))
-      (cases_eq (get_or new place 0) 1)
+      (λ (open_gate : get_or new offset 0 ≡ 1). inr (holds_opened rest new fits short (whole ∙ ap (λ g. staged bodies g body rest) open_gate)))
+      (λ (shut : get_or new offset 0 ≢ 1). inl (holds_staged (get_or new offset 0) rest new shut short whole))
+      (cases_eq (get_or new offset 0) 1)
     where
-      place : ℕ
-      place = length (log_bytes bodies)
+      offset : ℕ
+      offset = length (log_bytes bodies)
 
       old : List ℕ
       old = log_bytes bodies ++ gate ∷ (framed body ++ 0 ∷ rest)
@@ -88,23 +88,23 @@ module _ (bodies : List (List ℕ)) (body : List ℕ) where
       as_old : staged bodies gate body rest ≡ old
       as_old = staged_is gate rest
 
-      tear : IsTorn place 1 old new
-      tear = subst (λ l. IsTorn place 1 l new) as_old torn
+      tear : IsTorn offset 1 old new
+      tear = subst (λ l. IsTorn offset 1 l new) as_old torn
 
-      size : length old ≡ place + (1 + length (framed body ++ 0 ∷ rest))
+      size : length old ≡ offset + (1 + length (framed body ++ 0 ∷ rest))
       size = omega (arith, length-append (log_bytes bodies) (gate ∷ (framed body ++ 0 ∷ rest)))
 
       same : length old ≡ length new
       same = omega (arith, size, tear.no_shorter, tear.no_longer)
 
-      head : take place new ≡ log_bytes bodies
-      head = same_front old new place (omega (arith, size)) (omega (arith, size, same)) (λ k low. tear.before k low (omega (arith, size))) ∙ take_at (log_bytes bodies) (gate ∷ (framed body ++ 0 ∷ rest)) place refl
+      head : take offset new ≡ log_bytes bodies
+      head = same_front old new offset (omega (arith, size)) (omega (arith, size, same)) (λ k low. tear.before k low (omega (arith, size))) ∙ take_at (log_bytes bodies) (gate ∷ (framed body ++ 0 ∷ rest)) offset refl
 
-      tail : drop (place + 1) new ≡ framed body ++ 0 ∷ rest
-      tail = same_rest old new (place + 1) same (λ k high here. tear.behind k high here) ∙ ap (drop (place + 1)) (sym (append_assoc (log_bytes bodies) (gate ∷ []) (framed body ++ 0 ∷ rest))) ∙ drop_at (log_bytes bodies ++ gate ∷ []) (framed body ++ 0 ∷ rest) (place + 1) (length-append (log_bytes bodies) (gate ∷ []))
+      tail : drop (offset + 1) new ≡ framed body ++ 0 ∷ rest
+      tail = same_rest old new (offset + 1) same (λ k high here. tear.behind k high here) ∙ ap (drop (offset + 1)) (sym (append_assoc (log_bytes bodies) (gate ∷ []) (framed body ++ 0 ∷ rest))) ∙ drop_at (log_bytes bodies ++ gate ∷ []) (framed body ++ 0 ∷ rest) (offset + 1) (length-append (log_bytes bodies) (gate ∷ []))
 
-      whole : new ≡ staged bodies (get_or new place 0) body rest
-      whole = cut_at new place (omega (arith, size, same)) ∙ ap (λ l. l ++ get_or new place 0 ∷ drop (place + 1) new) head ∙ ap (λ l. log_bytes bodies ++ get_or new place 0 ∷ l) tail ∙ sym (staged_is (get_or new place 0) rest)
+      whole : new ≡ staged bodies (get_or new offset 0) body rest
+      whole = cut_at new offset (omega (arith, size, same)) ∙ ap (λ l. l ++ get_or new offset 0 ∷ drop (offset + 1) new) head ∙ ap (λ l. log_bytes bodies ++ get_or new offset 0 ∷ l) tail ∙ sym (staged_is (get_or new offset 0) rest)
 
   -- the file after the second write
   pub written_gate : (gate : ℕ) (rest : List ℕ) → put (staged bodies gate body rest) (length (log_bytes bodies)) (1 ∷ []) ≡ staged bodies 1 body rest

@@ -12,9 +12,9 @@ none_read None log images kept = tt
 none_read (Some bytes) log images kept = record { after = kept.bodies; at = record { is = kept.is; place_is = refl } }
 
 -- the place up to which was read is that of a gate
-pub some_gate : (seen : Option (List ℕ)) (log : LogState) (place : ℕ) (read : List (List ℕ)) → OnTold seen (HasRead log place read) → OnTold seen (IsSomeGate log place)
-some_gate None log place read has = tt
-some_gate (Some bytes) log place read has = record { before = read; after = has.after; at = has.at }
+pub some_gate : (seen : Option (List ℕ)) (log : LogState) (offset : ℕ) (read : List (List ℕ)) → OnTold seen (HasRead log offset read) → OnTold seen (IsSomeGate log offset)
+some_gate None log offset read has = tt
+some_gate (Some bytes) log offset read has = record { before = read; after = has.after; at = has.at }
 
 replay_reads : (log : LogState) (next : Option ℕ) (into bytes : List ℕ) (read after : List (List ℕ)) → IsLogOf log (read ++ after) bytes → IsReplayed log read after next into bytes → ReadsOn log read next into bytes
 replay_reads log None into bytes read [] is replayed = subst (λ bodies. IsLogOf log bodies bytes) (append-nil read) is

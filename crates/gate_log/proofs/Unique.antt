@@ -77,8 +77,8 @@ closed_or_short (x ∷ xs) (y ∷ ys) g r t short_a short_b shut lacking empty i
     not_nil : (z : List ℕ) (zs : List (List ℕ)) → z ∷ zs ≡ [] → zs ≡ []
     not_nil z zs is_nil = cc
 
-pub no_log : (a : List (List ℕ)) (file : List ℕ) (place : ℕ) → HoldsLog a file → IsCutShort file place → ⊥
-no_log a file place holds cut = closed_or_short a cut.bodies holds.gate holds.rest cut.rest holds.short cut.short holds.closed cut.lacking cut.empty (sym holds.split ∙ cut.split)
+pub no_log : (a : List (List ℕ)) (file : List ℕ) (offset : ℕ) → HoldsLog a file → IsCutShort file offset → ⊥
+no_log a file offset holds cut = closed_or_short a cut.bodies holds.gate holds.rest cut.rest holds.short cut.short holds.closed cut.lacking cut.empty (sym holds.split ∙ cut.split)
 
 -- What lacks bytes behind the same bodies' bytes lacks them behind the same bodies.
 not_empty : (b : List (List ℕ)) (y : List ℕ) (ys : List (List ℕ)) (u : List ℕ) → b ≡ y ∷ ys → (u ≡ [] → b ≡ []) → 1 ≤ length u
@@ -102,7 +102,7 @@ both_short (x ∷ xs) (y ∷ ys) t u short_a short_b lacking_t lacking_u empty_t
     not_nil : (z : List ℕ) (zs : List (List ℕ)) → z ∷ zs ≡ [] → zs ≡ []
     not_nil z zs is_nil = cc
 
-pub one_place : (file : List ℕ) (place other : ℕ) → IsCutShort file place → IsCutShort file other → place ≡ other
-one_place file place other first second =
+pub one_place : (file : List ℕ) (offset other : ℕ) → IsCutShort file offset → IsCutShort file other → offset ≡ other
+one_place file offset other first second =
     let same = both_short first.bodies second.bodies first.rest second.rest first.short second.short first.lacking second.lacking first.empty second.empty (sym first.split ∙ second.split) in
     first.place_is ∙ ap (λ bodies. length (log_bytes bodies)) same ∙ sym second.place_is

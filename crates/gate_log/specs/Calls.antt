@@ -1,5 +1,6 @@
 -- What the calls of a log answer.
-use Rattle.std.specs.Prelude.{◌≡◌, ◌≢◌, ◌≤◌, ◌+◌, ℕ, max, List, [], ◌∷◌, ◌++◌, length, Option, None, Some, Result, Ok, Err, ⊤}
+use Rattle.std.specs.Prelude.{◌≡◌, ◌≢◌, ◌≤◌, ◌+◌, ℕ, max, List, [], ◌∷◌, ◌++◌, length, Option, None, Some, Result, Ok}
+use Rattle.std.specs.Prelude.{Err, ⊤}
 use Rattle.gate_log.specs.declared.gate_log.LogFault.{LogFault}
 use Rattle.gate_log.specs.declared.gate_log.LogFault.TheVariants.{Device, Stopped, BadLog, OutOfMemory}
 use Rattle.gate_log.specs.Log.{gate_place, IsCutShort}
@@ -13,7 +14,7 @@ abbrev pub IsDiskAnswer : {T : Type 0} → Result T LogFault → Type 0
 IsDiskAnswer (Ok _) = ⊤
 IsDiskAnswer (Err Device) = ⊤
 IsDiskAnswer (Err Stopped) = ⊥
-IsDiskAnswer (Err (BadLog place)) = ⊥
+IsDiskAnswer (Err (BadLog offset)) = ⊥
 IsDiskAnswer (Err OutOfMemory) = ⊤
 
 -- so many calls of the disk where this one succeeds, and no more where it is refused
@@ -32,7 +33,7 @@ abbrev pub IsOpenAnswer : {T : Type 0} → Option (List ℕ) → Result T LogFau
 IsOpenAnswer seen (Ok _) = ⊤
 IsOpenAnswer seen (Err Device) = ⊤
 IsOpenAnswer seen (Err Stopped) = ⊥
-IsOpenAnswer seen (Err (BadLog place)) = OnTold seen (λ bytes. IsCutShort bytes place)
+IsOpenAnswer seen (Err (BadLog offset)) = OnTold seen (λ bytes. IsCutShort bytes offset)
 IsOpenAnswer seen (Err OutOfMemory) = ⊤
 
 -- an image while the file of a log is made: of that file at most one byte, or no more than it had
@@ -43,20 +44,20 @@ pub record IsMaking (file : ℕ) (old : Image → Type 0) (image : Image) : Type
   pub short : length (image file) ≤ max (length (before file)) 1
 
 -- the place of a gate of the log: these bodies stand before it, and these from it on
-pub record IsGateAt (log : LogState) (place : ℕ) (before after : List (List ℕ)) (bytes : List ℕ) : Type 0 where
+pub record IsGateAt (log : LogState) (offset : ℕ) (before after : List (List ℕ)) (bytes : List ℕ) : Type 0 where
   pub is : IsLogOf log (before ++ after) bytes
-  pub place_is : place ≡ gate_place before
+  pub place_is : offset ≡ gate_place before
 
 -- some gate of the log stands here
-pub record IsSomeGate (log : LogState) (place : ℕ) (bytes : List ℕ) : Type 0 where
+pub record IsSomeGate (log : LogState) (offset : ℕ) (bytes : List ℕ) : Type 0 where
   pub before : List (List ℕ)
   pub after : List (List ℕ)
-  pub at : IsGateAt log place before after bytes
+  pub at : IsGateAt log offset before after bytes
 
 -- these bodies, the first ones of the log, were read up to the gate at this place
-pub record HasRead (log : LogState) (place : ℕ) (read : List (List ℕ)) (bytes : List ℕ) : Type 0 where
+pub record HasRead (log : LogState) (offset : ℕ) (read : List (List ℕ)) (bytes : List ℕ) : Type 0 where
   pub after : List (List ℕ)
-  pub at : IsGateAt log place read after bytes
+  pub at : IsGateAt log offset read after bytes
 
 -- At the end the log's bodies are those that were read, else one more was read up to the next gate.
 abbrev pub ReadsOn : LogState → List (List ℕ) → Option ℕ → List ℕ → List ℕ → Type 0
@@ -68,4 +69,5 @@ abbrev pub IsReplayed : LogState → List (List ℕ) → List (List ℕ) → Opt
 IsReplayed log before [] None into bytes = ⊤
 IsReplayed log before [] (Some next) into bytes = ⊥
 IsReplayed log before (body ∷ after) None into bytes = ⊥
-IsReplayed log before (body ∷ after) (Some next) into bytes = (into ≡ body) × IsGateAt log next (before ++ body ∷ []) after bytes
+IsReplayed log before (body ∷ after) (Some next) into bytes =
+    (into ≡ body) × IsGateAt log next (before ++ body ∷ []) after bytes

@@ -1,5 +1,6 @@
 -- The frame of a body: its length as a big-endian u32, its bytes, and the gate behind it.
-use Rattle.std.specs.Prelude.{◌≡◌, ℕ, ◌+◌, ◌-◌, ◌<◌, ◌≤◌, ◌^◌, List, [], ◌∷◌, ◌++◌, length, take, drop, Option, None, Some}
+use Rattle.std.specs.Prelude.{◌≡◌, ℕ, ◌+◌, ◌-◌, ◌<◌, ◌≤◌, ◌^◌, List, [], ◌∷◌, ◌++◌, length, take, drop, Option, None}
+use Rattle.std.specs.Prelude.{Some}
 use Rattle.std.specs.Int.{to_be_bytes, from_be_bytes, w32}
 
 -- a body behind its length
@@ -20,8 +21,8 @@ body_in bytes = take (length bytes - 5) (drop 4 bytes)
 abbrev pub spelled_length : List ℕ → ℕ
 spelled_length after = from_be_bytes w32 (take 4 after)
 
--- Behind the gate at a place a body's length is spelled; none where, before the end, fewer bytes are behind the gate than
--- its body and the next gate need.
+-- Behind the gate at a place a body's length is spelled; none where, before the end, fewer bytes are behind the gate
+-- than its body and the next gate need.
 abbrev pub IsLengthAt : ℕ → ℕ → Option ℕ → List ℕ → Type 0
 IsLengthAt gate end None bytes = end ≤ gate + 5 + spelled_length (drop (gate + 1) bytes)
 IsLengthAt gate end (Some count) bytes = to_be_bytes w32 count ≡ take 4 (drop (gate + 1) bytes)

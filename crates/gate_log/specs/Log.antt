@@ -1,4 +1,5 @@
--- What a log file holds: log = gate (body gate)*, body = length u32, then that many bytes. A gate is one byte; 01 is open.
+-- What a log file holds: log = gate (body gate)*, body = length u32, then that many bytes. A gate is one byte; 01 is
+-- open.
 use Rattle.std.specs.Prelude.{◌≡◌, ◌≢◌, ◌⊎◌, ◌+◌, ◌<◌, ◌^◌, ℕ, List, [], ◌∷◌, ◌++◌, length, take, drop, sum_by, All, ⊤}
 use Rattle.gate_log.specs.Frame.{framed, spelled_length}
 
@@ -33,11 +34,11 @@ IsLacking [] = ⊤
 IsLacking (gate ∷ after) = (gate ≡ 1) × (length after < 4 + spelled_length after + 1)
 
 -- The file is no log: it is empty, or the open gate at this place lacks bytes behind it.
-pub record IsCutShort (file : List ℕ) (place : ℕ) : Type 0 where
+pub record IsCutShort (file : List ℕ) (offset : ℕ) : Type 0 where
   pub bodies : List (List ℕ)
   pub rest : List ℕ
   pub split : file ≡ log_bytes bodies ++ rest
-  pub place_is : place ≡ length (log_bytes bodies)
+  pub place_is : offset ≡ length (log_bytes bodies)
   pub lacking : IsLacking rest
   pub empty : rest ≡ [] → bodies ≡ []
   pub short : All (λ body. length body < 2 ^ 32) bodies
@@ -48,15 +49,17 @@ IsBeforeOrAfter bodies body file = HoldsLog bodies file ⊎ HoldsLog (bodies ++ 
 
 -- A file holds one log at most.
 abbrev pub HoldsOneLog : Type 0
-HoldsOneLog = (bodies others : List (List ℕ)) (file : List ℕ) → HoldsLog bodies file → HoldsLog others file → bodies ≡ others
+HoldsOneLog =
+    (bodies others : List (List ℕ)) (file : List ℕ) → HoldsLog bodies file → HoldsLog others file → bodies ≡ others
 
 -- A file that is cut short holds none.
 abbrev pub IsEitherLogOrShort : Type 0
-IsEitherLogOrShort = (bodies : List (List ℕ)) (file : List ℕ) (place : ℕ) → HoldsLog bodies file → IsCutShort file place → ⊥
+IsEitherLogOrShort =
+    (bodies : List (List ℕ)) (file : List ℕ) (offset : ℕ) → HoldsLog bodies file → IsCutShort file offset → ⊥
 
 -- A file is cut short at one place at most.
 abbrev pub IsShortAtOnePlace : Type 0
-IsShortAtOnePlace = (file : List ℕ) (place other : ℕ) → IsCutShort file place → IsCutShort file other → place ≡ other
+IsShortAtOnePlace = (file : List ℕ) (offset other : ℕ) → IsCutShort file offset → IsCutShort file other → offset ≡ other
 
 -- A body takes its length and five bytes, and the last gate one.
 abbrev pub LengthsAddUp : Type 0
@@ -64,8 +67,10 @@ LengthsAddUp = (bodies : List (List ℕ)) → log_length bodies ≡ sum_by (λ b
 
 -- One body more makes a log longer.
 abbrev pub OneMoreIsLonger : Type 0
-OneMoreIsLonger = (bodies : List (List ℕ)) (body : List ℕ) → log_length (bodies ++ body ∷ []) ≡ log_length bodies + 5 + length body
+OneMoreIsLonger =
+    (bodies : List (List ℕ)) (body : List ℕ) → log_length (bodies ++ body ∷ []) ≡ log_length bodies + 5 + length body
 
 -- A body stands in the file at its place.
 abbrev pub BodiesStand : Type 0
-BodiesStand = (before after : List (List ℕ)) (body file : List ℕ) → HoldsLog (before ++ body ∷ after) file → take (length body) (drop (body_place before) file) ≡ body
+BodiesStand = (before after : List (List ℕ)) (body file : List ℕ) → HoldsLog (before ++ body ∷ after) file
+    → take (length body) (drop (body_place before) file) ≡ body

@@ -22,8 +22,8 @@ pub record IsKept (log : LogState) (images : Image → Type 0) (bytes : List ℕ
   pub is : IsLogOf log bodies bytes
   pub durable : (image : Image) → images image → image log.file ≡ bytes
 
--- The file is as the calls of this log left it: it reaches to the log's end, and where the disk tells it, it holds the log
--- at each image.
+-- The file is as the calls of this log left it: it reaches to the log's end, and where the disk tells it, it holds the
+-- log at each image.
 pub record IsReady (log : LogState) (seen : Contents) (sizes : Lengths) (images : Image → Type 0) : Type 0 where
   pub size : ℕ
   pub known : sizes log.file ≡ Some size

@@ -1,5 +1,6 @@
 //! The frame of a body: its length, its bytes and the gate behind it, as a piece writes it and a log reads it.
-ghost use Rattle.std.specs.Prelude.{◌≡◌, ◌+◌, ◌-◌, ◌^◌, ◌<◌, ◌≤◌, ◌++◌, ◌∷◌, [], List, ℕ, Some, length, drop, take, IfOk, IfErr, OnOk, IfSome, IsErrOf};
+ghost use Rattle.std.specs.Prelude.{◌≡◌, ◌+◌, ◌-◌, ◌^◌, ◌<◌, ◌≤◌, ◌++◌, ◌∷◌, [], List, ℕ, Some, length, drop, take};
+ghost use Rattle.std.specs.Prelude.{IfOk, IfErr, OnOk, IfSome, IsErrOf};
 ghost use Rattle.std.specs.Int.{to_be_bytes, from_be_bytes, w32};
 ghost use Rattle.gate_log.specs.Calls.{Asks, IsGateAt, IsSomeGate, IsReplayed};
 ghost use Rattle.gate_log.specs.Disks.{IsLogReading};
@@ -36,6 +37,10 @@ impl Piece {
     /// The bytes at the front of a piece's buffer, which are the body's length.
     pub const FRONT: usize = 4;
 
+    // The room in bytes of a buffer that is begun: with its length and its gate, a body with one call on a name of at
+    // most 22 bytes fits.
+    const ROOM: usize = 128;
+
     /// A piece with this body, which is shorter than 2^31 bytes. The body is copied: what is only written for the
     /// piece goes right into its buffer, by `begin` and `end`.
     pub fn of(alloc: Global, body: &[u8]) -> Result<Piece, AllocError>
@@ -51,7 +56,7 @@ impl Piece {
     pub fn begin(alloc: Global) -> Result<Vec<u8>, AllocError>
         ensures { IfOk result (λ buffer. length buffer.items ≡ 4) }
     {
-        let mut buffer = Vec::new(alloc);
+        let mut buffer = Vec::with_capacity(alloc, Piece::ROOM)?;
         buffer.extend_from_slice(&[0; Piece::FRONT])?;
         Ok(buffer)
     }
@@ -109,7 +114,8 @@ pub(crate) fn length_at<D: Disk>(
     requires known { OnTold (D.sizes disk.old file) (λ size. end ≤ size) }
     ensures length { IfOk result (λ count. OnTold (D.seen disk.old file) (IsLengthAt gate end count)) }
     ensures fits { IfOk result (λ count. IfSome count (λ n. (n < 2 ^ 32) × (gate + 5 + n < end))) }
-    ensures call { IsReading D.seen D.sizes D.images D.moment D.images_since D.faults D.changes_asked D.lasts D.fails disk.old disk.new result }
+    ensures call { IsReading D.seen D.sizes D.images D.moment D.images_since D.faults D.changes_asked D.lasts D.fails
+        disk.old disk.new result }
     ensures asked { D.asked disk.new ≤ D.asked disk.old + 1 }
     ensures asked_once { IfOk result (λ count. IfSome count (λ _. D.asked disk.new ≡ next_number (D.asked disk.old))) }
 {
@@ -138,17 +144,20 @@ pub(crate) fn body_at<D: Disk>(
     requires short { end < 2 ^ 63 }
     requires within { at + 1 < end }
     requires gate { OnTold (D.seen disk.old file) (IsSomeGate (open_log file end) at) }
-    ensures given { IfOk result (λ next. (before after : List (List ℕ)) → OnTold (D.seen disk.old file) (IsGateAt (open_log file end) at before after)
+    ensures given { IfOk result
+        (λ next. (before after : List (List ℕ))
+        → OnTold (D.seen disk.old file) (IsGateAt (open_log file end) at before after)
         → OnTold (D.seen disk.old file) (IsReplayed (open_log file end) before after (Some next) into.new.items)) }
     ensures gate { IfOk result (λ next. OnTold (D.seen disk.new file) (IsSomeGate (open_log file end) next)) }
     ensures next { IfOk result (λ next. next ≡ at + 5 + length into.new.items) }
     ensures onward { IfOk result (λ next. (at < next) × (next < end)) }
     ensures refused { IfErr result (IsBodyRefusal (D.seen disk.old file) into.old.items into.new.items) }
-    ensures call { IsLogReading D.seen D.sizes D.images D.moment D.images_since D.faults D.changes_asked D.lasts D.fails disk.old disk.new result }
+    ensures call { IsLogReading D.seen D.sizes D.images D.moment D.images_since D.faults D.changes_asked D.lasts D.fails
+        disk.old disk.new result }
     ensures asked { Asks 2 (D.asked disk.old) (D.asked disk.new) result }
 {
     let Some(count) = length_at(disk, file, end, at)? else {
-        return Err(LogFault::BadLog { place: at });
+        return Err(LogFault::BadLog { offset: at });
     };
     into.resize(count as usize, 0)?;
     disk.read(file, at + 5, into)?;

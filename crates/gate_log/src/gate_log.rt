@@ -1,9 +1,12 @@
 //! The log.
-ghost use Rattle.std.specs.Prelude.{◌≡◌, ◌+◌, ◌^◌, ◌<◌, ◌≤◌, ◌++◌, ◌∷◌, [], List, ℕ, Ok, Err, Some, None, true, false, length, IfOk, IfErr, OnOk, OnErr, IsErrOf, IfSome, MatchOption};
-ghost use Rattle.gate_log.specs.Calls.{Asks, AsksForBody, IsDiskAnswer, IsOpenAnswer, IsMaking, IsGateAt, IsSomeGate, IsReplayed, HasRead, ReadsOn};
+ghost use Rattle.std.specs.Prelude.{◌≡◌, ◌+◌, ◌^◌, ◌<◌, ◌≤◌, ◌++◌, ◌∷◌, [], List, ℕ, Ok, Err, Some, None, true, false};
+ghost use Rattle.std.specs.Prelude.{length, IfOk, IfErr, OnOk, OnErr, IsErrOf, IfSome, MatchOption};
+ghost use Rattle.gate_log.specs.Calls.{Asks, AsksForBody, IsDiskAnswer, IsOpenAnswer, IsMaking, IsGateAt, IsSomeGate};
+ghost use Rattle.gate_log.specs.Calls.{IsReplayed, HasRead, ReadsOn};
 ghost use Rattle.gate_log.specs.Disks.{IsLogReading, IsLogChanging};
 ghost use Rattle.gate_log.specs.Found.{IsFound, AsksToFind};
-ghost use Rattle.gate_log.specs.Log.{IsBeforeOrAfter, HoldsOneLog, IsEitherLogOrShort, IsShortAtOnePlace, LengthsAddUp, OneMoreIsLonger, BodiesStand};
+ghost use Rattle.gate_log.specs.Log.{IsBeforeOrAfter, HoldsOneLog, IsEitherLogOrShort, IsShortAtOnePlace, LengthsAddUp};
+ghost use Rattle.gate_log.specs.Log.{OneMoreIsLonger, BodiesStand};
 ghost use Rattle.gate_log.specs.LogState.{open_log, IsReady, HasBodies, IsElsewhereOld};
 ghost use Rattle.gate_log.specs.Refusals.{log_fault_of, IsReplayRefusal, IsEndReady, IsShortEnd};
 ghost use Rattle.gate_log.specs.declared.gate_log.LogFault.TheVariants.{OutOfMemory};
@@ -30,8 +33,8 @@ pub enum LogFault {
     Stopped,
     /// The file is no log: it is empty, or the open gate at this place is followed by fewer bytes than its body and
     /// the next gate need.
-    #[error("bad log at byte {place}")]
-    BadLog { place: u64 },
+    #[error("bad log at byte {offset}")]
+    BadLog { offset: u64 },
     /// There was no memory, and the disk's count of faults is as before: it never stands for a fault of the device.
     /// Where the disk found none, the log has stopped.
     #[error("out of memory")]
@@ -84,13 +87,15 @@ impl GateLog {
     /// Makes the file of a log that holds no body. What the file held is gone.
     pub fn create<D: Disk>(disk: &mut D, file: u32) -> Result<GateLog, LogFault>
         ensures made { IfOk result (λ log. log ≡ open_log file 1) }
-        ensures ready { OnOk result (IsReady (open_log file 1) (D.seen disk.new) (D.sizes disk.new) (D.images disk.new)) }
+        ensures ready { OnOk result
+            (IsReady (open_log file 1) (D.seen disk.new) (D.sizes disk.new) (D.images disk.new)) }
         ensures empty { OnOk result (HasBodies (open_log file 1) (D.seen disk.new) []) }
         ensures bytes { OnOk result (OnTold (D.seen disk.new file) (λ bytes. bytes ≡ 0 ∷ [])) }
         ensures size { OnOk result (D.sizes disk.new file ≡ Some 1) }
         ensures told { StaysTold (D.seen disk.old file) (D.seen disk.new file) }
         ensures any_moment { LeavesOnly D.moment D.images_since disk.old disk.new (IsMaking file (D.images disk.old)) }
-        ensures elsewhere { IsElsewhereUnchanged file (D.seen disk.old) (D.seen disk.new) (D.sizes disk.old) (D.sizes disk.new) }
+        ensures elsewhere { IsElsewhereUnchanged file (D.seen disk.old) (D.seen disk.new) (D.sizes disk.old)
+            (D.sizes disk.new) }
         ensures answer { IsDiskAnswer result }
         ensures call { IsLogChanging D.faults D.lasts D.fails disk.old disk.new result }
         ensures asked { Asks 3 (D.asked disk.old) (D.asked disk.new) result }
@@ -125,7 +130,7 @@ impl GateLog {
                 length,
                 stopped: false,
             }),
-            Found::Bad { place } => Err(LogFault::BadLog { place }),
+            Found::Bad { offset } => Err(LogFault::BadLog { offset }),
         }
     }
 
@@ -133,17 +138,25 @@ impl GateLog {
     /// no memory of its own. After a refusal the log has stopped.
     pub fn append<D: Disk>(&mut self, disk: &mut D, piece: &Piece) -> Result<(), LogFault>
         requires short { self.old.length ≤ 2 ^ 62 }
-        requires ready { self.old.stopped ≡ false → IsReady self.old (D.seen disk.old) (D.sizes disk.old) (D.images disk.old) }
+        requires ready { self.old.stopped ≡ false
+            → IsReady self.old (D.seen disk.old) (D.sizes disk.old) (D.images disk.old) }
         ensures length { OnOk result (self.new ≡ record self.old { length = self.old.length + 5 + length piece.now }) }
         ensures ready { OnOk result (IsReady self.new (D.seen disk.new) (D.sizes disk.new) (D.images disk.new)) }
         ensures appended { OnOk result ((bodies : List (List ℕ)) → HasBodies self.old (D.seen disk.old) bodies
             → HasBodies self.new (D.seen disk.new) (bodies ++ piece.now ∷ [])) }
-        ensures any_moment { self.old.stopped ≡ false → (bodies : List (List ℕ)) → HasBodies self.old (D.seen disk.old) bodies
-            → OnTold (D.seen disk.old self.old.file) (λ _. LeavesOnly D.moment D.images_since disk.old disk.new (λ image. IsBeforeOrAfter bodies piece.now (image self.old.file))) }
+        ensures any_moment { self.old.stopped ≡ false → (bodies : List (List ℕ))
+            → HasBodies self.old (D.seen disk.old) bodies
+            → OnTold (D.seen disk.old self.old.file)
+            (λ _. LeavesOnly D.moment D.images_since disk.old disk.new
+            (λ image. IsBeforeOrAfter bodies piece.now (image self.old.file))) }
         ensures told { StaysTold (D.seen disk.old self.old.file) (D.seen disk.new self.old.file) }
-        ensures images_elsewhere { self.old.stopped ≡ false → LeavesOnly D.moment D.images_since disk.old disk.new (IsElsewhereOld self.old.file (D.images disk.old)) }
-        ensures elsewhere { self.old.stopped ≡ false → IsElsewhereUnchanged self.old.file (D.seen disk.old) (D.seen disk.new) (D.sizes disk.old) (D.sizes disk.new) }
-        ensures stopped { self.old.stopped ≡ true → (result ≡ Err LogFault.Stopped) × (self.new ≡ self.old) × (disk.new ≡ disk.old) }
+        ensures images_elsewhere { self.old.stopped ≡ false
+            → LeavesOnly D.moment D.images_since disk.old disk.new (IsElsewhereOld self.old.file (D.images disk.old)) }
+        ensures elsewhere { self.old.stopped ≡ false
+            → IsElsewhereUnchanged self.old.file (D.seen disk.old) (D.seen disk.new) (D.sizes disk.old)
+            (D.sizes disk.new) }
+        ensures stopped { self.old.stopped ≡ true
+            → (result ≡ Err LogFault.Stopped) × (self.new ≡ self.old) × (disk.new ≡ disk.old) }
         ensures answer { self.old.stopped ≡ false → IsDiskAnswer result }
         ensures stops { OnErr result (self.new ≡ record self.old { stopped = true }) }
         ensures call { IsLogChanging D.faults D.lasts D.fails disk.old disk.new result }
@@ -174,22 +187,32 @@ impl GateLog {
         at: u64,
         into: &mut Vec<u8>,
     ) -> Result<Option<u64>, LogFault>
-        requires ready { self.old.stopped ≡ false → IsReady self.old (D.seen disk.old) (D.sizes disk.old) (D.images disk.old) }
+        requires ready { self.old.stopped ≡ false
+            → IsReady self.old (D.seen disk.old) (D.sizes disk.old) (D.images disk.old) }
         requires short { self.old.length < 2 ^ 63 }
         requires within { at < self.old.length }
         requires gate { self.old.stopped ≡ false → OnTold (D.seen disk.old self.old.file) (IsSomeGate self.old at) }
-        ensures given { IfOk result (λ next. (before after : List (List ℕ)) → OnTold (D.seen disk.old self.old.file) (IsGateAt self.old at before after)
+        ensures given { IfOk result
+            (λ next. (before after : List (List ℕ))
+            → OnTold (D.seen disk.old self.old.file) (IsGateAt self.old at before after)
             → OnTold (D.seen disk.old self.old.file) (IsReplayed self.old before after next into.new.items)) }
-        ensures read { IfOk result (λ next. (read : List (List ℕ)) → OnTold (D.seen disk.old self.old.file) (HasRead self.old at read)
+        ensures read { IfOk result
+            (λ next. (read : List (List ℕ)) → OnTold (D.seen disk.old self.old.file) (HasRead self.old at read)
             → OnTold (D.seen disk.new self.old.file) (ReadsOn self.old read next into.new.items)) }
-        ensures next { IfOk result (λ next. IfSome next (λ place. place ≡ at + 5 + length into.new.items)) }
-        ensures gate { IfOk result (λ next. IfSome next (λ place. OnTold (D.seen disk.new self.old.file) (IsSomeGate self.old place))) }
-        ensures end { IfOk result (λ next. MatchOption next (at + 1 ≡ self.old.length) (λ place. (at < place) × (place < self.old.length))) }
+        ensures next { IfOk result (λ next. IfSome next (λ offset. offset ≡ at + 5 + length into.new.items)) }
+        ensures gate { IfOk result
+            (λ next. IfSome next (λ offset. OnTold (D.seen disk.new self.old.file) (IsSomeGate self.old offset))) }
+        ensures end { IfOk result
+            (λ next. MatchOption next (at + 1 ≡ self.old.length)
+            (λ offset. (at < offset) × (offset < self.old.length))) }
         ensures untouched { IfOk result (λ next. next ≡ None → into.new.items ≡ into.old.items) }
         ensures same { OnOk result (self.new ≡ self.old) }
-        ensures ready { self.new.stopped ≡ false → IsReady self.new (D.seen disk.new) (D.sizes disk.new) (D.images disk.new) }
-        ensures refused { IfErr result (IsReplayRefusal (D.seen disk.old self.old.file) self.old self.new into.old.items into.new.items) }
-        ensures call { IsLogReading D.seen D.sizes D.images D.moment D.images_since D.faults D.changes_asked D.lasts D.fails disk.old disk.new result }
+        ensures ready { self.new.stopped ≡ false
+            → IsReady self.new (D.seen disk.new) (D.sizes disk.new) (D.images disk.new) }
+        ensures refused { IfErr result
+            (IsReplayRefusal (D.seen disk.old self.old.file) self.old self.new into.old.items into.new.items) }
+        ensures call { IsLogReading D.seen D.sizes D.images D.moment D.images_since D.faults D.changes_asked D.lasts
+            D.fails disk.old disk.new result }
         ensures asked { AsksForBody (D.asked disk.old) (D.asked disk.new) result }
     {
         if self.stopped {
@@ -232,7 +255,8 @@ fn make_file<D: Disk>(disk: &mut D, file: u32) -> Result<(), DiskFault>
     ensures size { OnOk result (D.sizes disk.new file ≡ Some 1) }
     ensures told { StaysTold (D.seen disk.old file) (D.seen disk.new file) }
     ensures any_moment { LeavesOnly D.moment D.images_since disk.old disk.new (IsMaking file (D.images disk.old)) }
-    ensures elsewhere { IsElsewhereUnchanged file (D.seen disk.old) (D.seen disk.new) (D.sizes disk.old) (D.sizes disk.new) }
+    ensures elsewhere { IsElsewhereUnchanged file (D.seen disk.old) (D.seen disk.new) (D.sizes disk.old)
+        (D.sizes disk.new) }
     ensures call { IsChanging D.faults D.lasts D.fails disk.old disk.new result }
     ensures asked { Asks 3 (D.asked disk.old) (D.asked disk.new) result }
     ensures changes { Asks 2 (D.changes_asked disk.old) (D.changes_asked disk.new) result }
@@ -245,7 +269,8 @@ fn make_file<D: Disk>(disk: &mut D, file: u32) -> Result<(), DiskFault>
 fn find_end<D: Disk>(disk: &mut D, file: u32) -> Result<Found, DiskFault>
     ensures found { IfOk result (λ found. OnTold (D.seen disk.old file) (IsFound found)) }
     ensures short { IfOk result IsShortEnd }
-    ensures ready { IfOk result (λ found. IsEndReady file found (D.seen disk.new) (D.sizes disk.new) (D.images disk.new)) }
+    ensures ready { IfOk result
+        (λ found. IsEndReady file found (D.seen disk.new) (D.sizes disk.new) (D.images disk.new)) }
     ensures unchanged { IsUnchanged (D.seen disk.old) (D.seen disk.new) (D.sizes disk.old) (D.sizes disk.new) }
     ensures any_moment { LeavesOnly D.moment D.images_since disk.old disk.new (D.images disk.old) }
     ensures call { IsChanging D.faults D.lasts D.fails disk.old disk.new result }

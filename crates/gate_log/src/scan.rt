@@ -26,7 +26,7 @@ pub(crate) enum Found {
     /// A log of this length.
     End { length: u64 },
     /// An empty file, or an open gate at this place with too few bytes behind it.
-    Bad { place: u64 },
+    Bad { offset: u64 },
 }
 
 /// Goes from gate to gate to the log's end.
@@ -35,18 +35,19 @@ pub(crate) fn end_of<D: Disk>(disk: &mut D, file: u32, size: u64) -> Result<Foun
     requires known { D.sizes disk.old file ≡ Some size }
     ensures found { IfOk result (λ found. OnTold (D.seen disk.old file) (IsFound found)) }
     ensures within { IfOk result (EndsWithin size) }
-    ensures call { IsReading D.seen D.sizes D.images D.moment D.images_since D.faults D.changes_asked D.lasts D.fails disk.old disk.new result }
+    ensures call { IsReading D.seen D.sizes D.images D.moment D.images_since D.faults D.changes_asked D.lasts D.fails
+        disk.old disk.new result }
     ensures asked { IfOk result (AsksToFind (D.asked disk.old) (D.asked disk.new)) }
 {
     if size == 0 {
-        return Ok(Found::Bad { place: 0 });
+        return Ok(Found::Bad { offset: 0 });
     }
-    let mut place = 0;
+    let mut offset = 0;
     'gates: loop {
-        match step_at(disk, file, size, place)? {
-            Step::Closed => return Ok(Found::End { length: place + 1 }),
-            Step::Body { next } => place = next,
-            Step::Lacking => return Ok(Found::Bad { place }),
+        match step_at(disk, file, size, offset)? {
+            Step::Closed => return Ok(Found::End { length: offset + 1 }),
+            Step::Body { next } => offset = next,
+            Step::Lacking => return Ok(Found::Bad { offset }),
         }
     }
 }
@@ -56,25 +57,26 @@ pub(crate) fn step_at<D: Disk>(
     disk: &mut D,
     file: u32,
     size: u64,
-    place: u64,
+    offset: u64,
 ) -> Result<Step, DiskFault>
-    requires within { place < size }
+    requires within { offset < size }
     requires short { size < 2 ^ 63 }
     requires known { D.sizes disk.old file ≡ Some size }
-    ensures step { IfOk result (λ step. OnTold (D.seen disk.old file) (IsStep place step)) }
-    ensures onward { IfOk result (IsOnward place size) }
-    ensures call { IsReading D.seen D.sizes D.images D.moment D.images_since D.faults D.changes_asked D.lasts D.fails disk.old disk.new result }
+    ensures step { IfOk result (λ step. OnTold (D.seen disk.old file) (IsStep offset step)) }
+    ensures onward { IfOk result (IsOnward offset size) }
+    ensures call { IsReading D.seen D.sizes D.images D.moment D.images_since D.faults D.changes_asked D.lasts D.fails
+        disk.old disk.new result }
     ensures asked { D.asked disk.new ≤ D.asked disk.old + 2 }
     ensures asked_once { IfOk result (λ step. step ≡ Step.Closed → D.asked disk.new ≤ D.asked disk.old + 1) }
 {
     let mut gate = [0; 1];
-    disk.read(file, place, &mut gate)?;
+    disk.read(file, offset, &mut gate)?;
     if gate[0] != 1 {
         return Ok(Step::Closed);
     }
-    match length_at(disk, file, size, place)? {
+    match length_at(disk, file, size, offset)? {
         Some(count) => Ok(Step::Body {
-            next: place + 5 + count,
+            next: offset + 5 + count,
         }),
         None => Ok(Step::Lacking),
     }

@@ -13,12 +13,12 @@ pub gates-preserved : goal.gates-preserved
 gates-preserved g c =
     let before = c.gates.invariant in
     let onward = rw c.in-Body.is at c.in_ok-step_at.ensures.onward in
-    let next_is : c.gates.place + 5 ≤ c.in-Body.next = omega (arith, onward.0) in
+    let next_is : c.gates.offset + 5 ≤ c.in-Body.next = omega (arith, onward.0) in
     let step = rw c.in-Body.is at c.in_ok-step_at.ensures.step in
-    let P : Option (List ℕ) → Type 0 = λ seen. OnTold seen (IsBodyAt c.gates.place c.in-Body.next) in
+    let P : Option (List ℕ) → Type 0 = λ seen. OnTold seen (IsBodyAt c.gates.offset c.in-Body.next) in
     record {
       within = onward.1;
-      scanned = more (g.D.Disk.seen c.args.disk.now c.args.file) c.gates.place c.in-Body.next before.scanned (subst P (before.calls.unchanged.bytes c.args.file) step);
+      scanned = more (g.D.Disk.seen c.args.disk.now c.args.file) c.gates.offset c.in-Body.next before.scanned (subst P (before.calls.unchanged.bytes c.args.file) step);
       calls = reading_answers (reading_on g.D.Disk.lasts g.D.Disk.fails g.met.D.Disk.lasts_on g.met.D.Disk.fails_after before.calls c.in_ok-step_at.ensures.call) tt;
       asked = omega (arith, before.asked, c.step_at.ensures.asked, next_is);
     }

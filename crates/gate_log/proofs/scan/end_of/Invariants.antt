@@ -6,11 +6,11 @@ use Rattle.gate_log.proofs.scan.end_of.Given as goal
 
 abbrev pub invariant-gates : goal.invariant-gates
 invariant-gates g l = record {
-  within : l.place < l.size;
-  scanned : OnTold (g.D.Disk.seen l.fn.disk l.file) (IsScanned l.place);
+  within : l.offset < l.size;
+  scanned : OnTold (g.D.Disk.seen l.fn.disk l.file) (IsScanned l.offset);
   calls : IsReading {T = Unit {0}} g.D.Disk.seen g.D.Disk.sizes g.D.Disk.images g.D.Disk.moment g.D.Disk.images_since g.D.Disk.faults g.D.Disk.changes_asked g.D.Disk.lasts g.D.Disk.fails l.fn.disk l.disk (Ok tt);
-  asked : g.D.Disk.asked l.disk ≤ g.D.Disk.asked l.fn.disk + l.place;
+  asked : g.D.Disk.asked l.disk ≤ g.D.Disk.asked l.fn.disk + l.offset;
 }
 
 abbrev pub decreases-gates : goal.decreases-gates
-decreases-gates g l = l.size - l.place
+decreases-gates g l = l.size - l.offset
