@@ -2,6 +2,7 @@
 use Rattle.std.specs.Prelude.{⊤}
 use Rattle.std.proofs.Common.{◌≡◌, ◌∙◌, sym, ap, subst, refl, ℕ, ◌≤◌, Result, Ok, Err, IsErrOf, arith}
 use Rattle.gate_log.proofs.Scans.{unchanged_twice, same_twice}
+use Rattle.gate_log.proofs.Told.{told_here, told_on, told_still}
 use Rattle.gate_log.specs.LogState.{IsElsewhereOld}
 use Rattle.mds_out.specs.Disk.{Image, Contents, Lengths}
 use Rattle.mds_out.proofs.Moments.{both, started, leaves_weaker}
@@ -75,6 +76,7 @@ module _ {D : Type 0} {seen : D → Contents} {sizes : D → Lengths} {images : 
   pub writes_none : (file : ℕ) (old : D) → ((image : Image) → since old (moment old) image → images old image) → leads old old → WritesOnly seen sizes images moment since faults leads fails_by file old old quiet
   writes_none file old only here = record {
     elsewhere = unchanged_elsewhere_none file (seen old) (sizes old);
+    told = told_here (seen old file);
     any_moment = elsewhere_none moment since file old (images old) only;
     cause = record { later = omega arith; device = λ never. absurd cc; other = tt; kept = refl };
     lasts = here;
@@ -84,6 +86,7 @@ module _ {D : Type 0} {seen : D → Contents} {sizes : D → Lengths} {images : 
   pub writes_as : {T S : Type 0} (r : Result T TableFault) (s : Result S TableFault) (file : ℕ) (old new : D) → AreAlike r s → WritesOnly seen sizes images moment since faults leads fails_by file old new r → WritesOnly seen sizes images moment since faults leads fails_by file old new s
   writes_as r s file old new alike writes = record {
     elsewhere = writes.elsewhere;
+    told = writes.told;
     any_moment = writes.any_moment;
     cause = cause_as r s (faults old) (faults new) alike writes.cause;
     lasts = writes.lasts;
@@ -93,6 +96,7 @@ module _ {D : Type 0} {seen : D → Contents} {sizes : D → Lengths} {images : 
   pub writes_reads : {T : Type 0} (r : Result T TableFault) (file : ℕ) (old new : D) → OnlyReads seen sizes images moment since faults leads fails_by old new r → WritesOnly seen sizes images moment since faults leads fails_by file old new r
   writes_reads r file old new reads = record {
     elsewhere = record { bytes = λ other apart. reads.unchanged.bytes other; lengths = λ other apart. reads.unchanged.lengths other };
+    told = told_still (seen old file) (seen old file) (seen new file) (told_here (seen old file)) (reads.unchanged.bytes file);
     any_moment = leaves_weaker moment since old new (images old) (IsElsewhereOld file (images old)) (old_elsewhere file (images old)) reads.any_moment;
     cause = reads.cause;
     lasts = reads.lasts;
@@ -103,6 +107,7 @@ module _ {D : Type 0} {seen : D → Contents} {sizes : D → Lengths} {images : 
       → WritesOnly seen sizes images moment since faults leads fails_by file old mid quiet → WritesOnly seen sizes images moment since faults leads fails_by file mid new r → WritesOnly seen sizes images moment since faults leads fails_by file old new r
   writes_on r file old mid new counts on after first second = record {
     elsewhere = unchanged_elsewhere file (seen old) (seen mid) (seen new) (sizes old) (sizes mid) (sizes new) first.elsewhere second.elsewhere;
+    told = told_on (seen old file) (seen mid file) (seen new file) first.told second.told;
     any_moment = elsewhere_on moment since file old mid new (images old) (images mid) counts first.any_moment second.any_moment;
     cause = subst (λ n. HasTableCause n (faults new) r) first.cause.kept second.cause;
     lasts = on first.lasts second.lasts;

@@ -10,5 +10,5 @@ use Rattle.merge_rows.specs.Telling.{AreTold}
 abbrev pub IsMergeAnswer : {T : Type 0} → List TableState → Contents → Result T TableFault → Type 0
 IsMergeAnswer tables seen (Ok _) = ⊤
 IsMergeAnswer tables seen (Err Device) = ⊤
-IsMergeAnswer tables seen (Err (Damaged place damage)) = AreTold tables seen → ⊥
+IsMergeAnswer tables seen (Err (Damaged offset damage)) = AreTold tables seen → ⊥
 IsMergeAnswer tables seen (Err OutOfMemory) = ⊤

@@ -40,4 +40,5 @@ pub record IsMerging (merge : Merge) (tables : List TableState) (seen : Contents
   pub done : List TableRow
   pub built : IsBuilt merge.builder done (seen merge.builder.file)
   pub upto : AreUpto merge.last done
-  pub part : (blocks : List (List (List TableRow))) → AllTell HasBlocks tables seen blocks → IsPartWay merge.last done (lefts merge.cursors.items blocks) (map rows_in blocks)
+  pub part : (blocks : List (List (List TableRow))) → AllTell HasBlocks tables seen blocks
+      → IsPartWay merge.last done (lefts merge.cursors.items blocks) (map rows_in blocks)

@@ -1,5 +1,6 @@
 -- What one step of a merge does: one key is passed.
-use Rattle.std.specs.Prelude.{◌≡◌, ◌⊎◌, ℕ, ◌+◌, ◌<◌, ◌≤◌, List, [], ◌∷◌, ◌++◌, map, Option, None, Some, Result, Ok, Err, ⊤, Bool, true, false}
+use Rattle.std.specs.Prelude.{◌≡◌, ◌⊎◌, ℕ, ◌+◌, ◌<◌, ◌≤◌, List, [], ◌∷◌, ◌++◌, map, Option, None, Some, Result, Ok, Err}
+use Rattle.std.specs.Prelude.{⊤, Bool, true, false}
 use Rattle.mds_base.specs.declared.attr.Attr.{Attr}
 use Rattle.mds_base.specs.declared.row_key.RowKey.{RowKey}
 use Rattle.mds_out.specs.Disk.{Contents}
@@ -25,7 +26,8 @@ with_row rows key (Some attr) = rows ++ record { key = key; attr = Some attr } �
 -- present block has a row
 pub record IsPut (old new : Builder) (key : RowKey) (attr : Option Attr) (seen seen' : Option (List ℕ)) : Type 0 where
   pub file : new.file ≡ old.file
-  pub built : (rows : List TableRow) → IsBuilt old rows seen → AllBelow rows key → IsBuilt new (with_row rows key attr) seen'
+  pub built : (rows : List TableRow) → IsBuilt old rows seen → AllBelow rows key
+      → IsBuilt new (with_row rows key attr) seen'
   pub later : old.written ≤ new.written
   pub most : new.written ≤ old.written + 1
   pub some : (new ≡ old) ⊎ (0 < new.count)
@@ -41,7 +43,7 @@ pub record IsPassed (old new : Merge) (key : RowKey) (attr : Option Attr) (seen 
 abbrev pub IsPassAnswer : {T : Type 0} → Bool → Result T TableFault → Type 0
 IsPassAnswer above (Ok _) = ⊤
 IsPassAnswer above (Err Device) = ⊤
-IsPassAnswer above (Err (Damaged place damage)) = above ≡ false
+IsPassAnswer above (Err (Damaged offset damage)) = above ≡ false
 IsPassAnswer above (Err OutOfMemory) = ⊤
 
 -- a step was made, or no row is left
@@ -51,4 +53,5 @@ pub record Steps (old new : Merge) (some : Bool) (tables : List TableState) (see
   pub most : new.builder.written ≤ old.builder.written + 1
   pub added : (new.builder ≡ old.builder) ⊎ (0 < new.builder.count)
   pub less : some ≡ true → weights new.cursors.items tables < weights old.cursors.items tables
-  pub none : some ≡ false → (blocks : List (List (List TableRow))) → AllTell HasBlocks tables seen blocks → (key : RowKey) → newest (lefts new.cursors.items blocks) key ≡ Absent
+  pub none : some ≡ false → (blocks : List (List (List TableRow))) → AllTell HasBlocks tables seen blocks
+      → (key : RowKey) → newest (lefts new.cursors.items blocks) key ≡ Absent

@@ -6,7 +6,8 @@ use Rattle.mds_out.specs.Disk.{Contents, Lengths}
 use Rattle.sorted_table.specs.Tables.{TableState, IsReady}
 
 -- the disk tells of a table that it has this
-pub record Tells {X : Type 0} (Has : TableState → X → List ℕ → Type 0) (table : TableState) (seen : Contents) (x : X) : Type 0 where
+pub record Tells {X : Type 0} (Has : TableState → X → List ℕ → Type 0) (table : TableState) (seen : Contents)
+    (x : X) : Type 0 where
   pub bytes : List ℕ
   pub told : seen table.file ≡ Some bytes
   pub has : Has table x bytes

@@ -69,10 +69,13 @@ impl Cursor {
         requires placed { IsPlaced self.old table.now }
         ensures placed { OnOk result (IsPlaced self.new table.now) }
         ensures next { OnOk result (HasNext self.new table.now) }
-        ensures rest { OnOk result ((blocks : List (List TableRow)) → Tells HasBlocks table.now (D.seen disk.old) blocks → rest_of self.new blocks ≡ rest_of self.old blocks) }
+        ensures rest { OnOk result
+            ((blocks : List (List TableRow)) → Tells HasBlocks table.now (D.seen disk.old) blocks
+            → rest_of self.new blocks ≡ rest_of self.old blocks) }
         ensures weight { OnOk result (weight self.new table.now ≤ weight self.old table.now) }
         ensures frame { frame.new.number ≡ frame.old.number }
-        ensures reads { OnlyReads D.seen D.sizes D.images D.moment D.images_since D.faults D.lasts D.fails disk.old disk.new result }
+        ensures reads { OnlyReads D.seen D.sizes D.images D.moment D.images_since D.faults D.lasts D.fails disk.old
+            disk.new result }
         ensures answer { IsCopyAnswer (D.seen disk.old table.now.file) result }
     {
         if !self.rows.is_empty() {

@@ -2,7 +2,8 @@
 ghost use Rattle.std.specs.Prelude.{◌≡◌, ◌≤◌, List, IfOk, OnOk, length, map, replicate};
 ghost use Rattle.std.specs.Option.{option_map};
 ghost use Rattle.merge_rows.specs.Answers.{IsMergeAnswer};
-ghost use Rattle.merge_rows.specs.Cursors.{at_front, cursor_passed, cursor_rows, lesser, least, lefts, AllAlong, IsPlaced, HasNext, weights};
+ghost use Rattle.merge_rows.specs.Cursors.{at_front, cursor_passed, cursor_rows, lesser, least, lefts, AllAlong};
+ghost use Rattle.merge_rows.specs.Cursors.{IsPlaced, HasNext, weights};
 ghost use Rattle.merge_rows.specs.Runs.{OnlyReads};
 ghost use Rattle.merge_rows.specs.Telling.{AllTell, AreReady};
 ghost use Rattle.sorted_table.specs.Tables.{HasBlocks};
@@ -38,10 +39,13 @@ pub(crate) fn fill_all<D: Disk>(
     requires placed { AllAlong IsPlaced cursors.old tables.now }
     ensures placed { OnOk result (AllAlong IsPlaced cursors.new tables.now) }
     ensures next { OnOk result (AllAlong HasNext cursors.new tables.now) }
-    ensures lefts { OnOk result ((blocks : List (List (List TableRow))) → AllTell HasBlocks tables.now (D.seen disk.old) blocks → lefts cursors.new blocks ≡ lefts cursors.old blocks) }
+    ensures lefts { OnOk result
+        ((blocks : List (List (List TableRow))) → AllTell HasBlocks tables.now (D.seen disk.old) blocks
+        → lefts cursors.new blocks ≡ lefts cursors.old blocks) }
     ensures weight { OnOk result (weights cursors.new tables.now ≤ weights cursors.old tables.now) }
     ensures frame { frame.new.number ≡ frame.old.number }
-    ensures reads { OnlyReads D.seen D.sizes D.images D.moment D.images_since D.faults D.lasts D.fails disk.old disk.new result }
+    ensures reads { OnlyReads D.seen D.sizes D.images D.moment D.images_since D.faults D.lasts D.fails disk.old disk.new
+        result }
     ensures answer { IsMergeAnswer tables.now (D.seen disk.old) result }
 {
     for place in 0..tables.len() {
@@ -61,7 +65,8 @@ pub(crate) fn least(cursors: &[Cursor]) -> Option<&TableRow>
 }
 
 fn lesser<'a>(row: Option<&'a TableRow>, other: Option<&'a TableRow>) -> Option<&'a TableRow>
-    ensures { option_map (λ row. row.now) result ≡ lesser (option_map (λ row. row.now) row.entry) (option_map (λ row. row.now) other.entry) }
+    ensures { option_map (λ row. row.now) result
+        ≡ lesser (option_map (λ row. row.now) row.entry) (option_map (λ row. row.now) other.entry) }
 {
     match (row, other) {
         (None, other) => other,

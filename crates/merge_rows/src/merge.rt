@@ -44,7 +44,8 @@ impl Merge {
     pub fn start(alloc: Global, tables: &[Table], file: u32) -> Result<Merge, AllocError>
         requires apart { AreApart tables.now file }
         ensures file { IfOk result (λ merge. merge.builder.file ≡ file) }
-        ensures merging { IfOk result (λ merge. (seen : Contents) (sizes : Lengths) → IsMerging merge tables.now seen sizes) }
+        ensures merging { IfOk result
+            (λ merge. (seen : Contents) (sizes : Lengths) → IsMerging merge tables.now seen sizes) }
         ensures begun { IfOk result (λ merge. merge.builder.written ≡ 0) }
     {
         Ok(Merge {
@@ -73,13 +74,18 @@ impl Merge {
         ensures wrote { IfMore result (λ merge. merge.builder.written ≡ self.builder.written + blocks) }
         ensures left { IfMore result (λ merge. 0 < merge.builder.count) }
         ensures finished { IfFinished result (λ table. table.file ≡ self.builder.file) }
-        ensures rows { IfFinished result (λ table. (lists : List (List TableRow)) → AllTell HasRows tables.now (D.seen disk.old) lists → HoldsMerged table (D.seen disk.new) lists) }
+        ensures rows { IfFinished result
+            (λ table. (lists : List (List TableRow)) → AllTell HasRows tables.now (D.seen disk.old) lists
+            → HoldsMerged table (D.seen disk.new) lists) }
         ensures ready { IfFinished result (λ table. IsReady table (D.seen disk.new) (D.sizes disk.new)) }
-        ensures durable { IfFinished result (λ table. IsDurable self.builder.file (D.seen disk.new) (D.images disk.new)) }
+        ensures durable { IfFinished result
+            (λ table. IsDurable self.builder.file (D.seen disk.new) (D.images disk.new)) }
         ensures frame { frame.new.number ≡ frame.old.number }
         ensures tables { AreReady tables.now (D.seen disk.new) (D.sizes disk.new) }
-        ensures readable { StayReadable D.moment D.images_since disk.old disk.new (D.seen disk.old) (D.images disk.old) tables.now }
-        ensures writes { WritesOnly D.seen D.sizes D.images D.moment D.images_since D.faults D.lasts D.fails self.builder.file disk.old disk.new result }
+        ensures readable { StayReadable D.moment D.images_since disk.old disk.new (D.seen disk.old) (D.images disk.old)
+            tables.now }
+        ensures writes { WritesOnly D.seen D.sizes D.images D.moment D.images_since D.faults D.lasts D.fails
+            self.builder.file disk.old disk.new result }
         ensures answer { IsMergeAnswer tables.now (D.seen disk.old) result }
     {
         let before = self.builder.written();
@@ -105,7 +111,8 @@ impl Merge {
         ensures merging { OnOk result (IsMerging self.new tables.now (D.seen disk.new) (D.sizes disk.new)) }
         ensures steps { IfOk result (λ some. Steps self.old self.new some tables.now (D.seen disk.old)) }
         ensures frame { frame.new.number ≡ frame.old.number }
-        ensures writes { WritesOnly D.seen D.sizes D.images D.moment D.images_since D.faults D.lasts D.fails self.old.builder.file disk.old disk.new result }
+        ensures writes { WritesOnly D.seen D.sizes D.images D.moment D.images_since D.faults D.lasts D.fails
+            self.old.builder.file disk.old disk.new result }
         ensures answer { IsMergeAnswer tables.now (D.seen disk.old) result }
     {
         fill_all(alloc, disk, frame, tables, self.cursors.as_mut_slice())?;
@@ -128,14 +135,17 @@ impl Merge {
     ) -> Result<(), TableFault>
         requires attr { IsMarked attr }
         requires growing { IsGrowing self.old.builder (D.sizes disk.old) }
-        ensures passed { OnOk result (IsPassed self.old self.new key attr (D.seen disk.old self.old.builder.file) (D.seen disk.new self.old.builder.file)) }
+        ensures passed { OnOk result
+            (IsPassed self.old self.new key attr (D.seen disk.old self.old.builder.file)
+            (D.seen disk.new self.old.builder.file)) }
         ensures growing { OnOk result (IsGrowing self.new.builder (D.sizes disk.new)) }
-        ensures writes { WritesOnly D.seen D.sizes D.images D.moment D.images_since D.faults D.lasts D.fails self.old.builder.file disk.old disk.new result }
+        ensures writes { WritesOnly D.seen D.sizes D.images D.moment D.images_since D.faults D.lasts D.fails
+            self.old.builder.file disk.old disk.new result }
         ensures answer { IsPassAnswer (is_above self.old.last key) result }
     {
         if !is_above(self.last.as_ref(), &key) {
             return Err(TableFault::Damaged {
-                place: 0,
+                offset: 0,
                 damage: TableDamage::Spelling,
             });
         }
@@ -150,10 +160,16 @@ impl Merge {
         requires growing { IsGrowing self.builder (D.sizes disk.old) }
         ensures last { IfMore result (λ merge. ⊥) }
         ensures file { IfFinished result (λ table. table.file ≡ self.builder.file) }
-        ensures ready { IfFinished result (λ table. (rows : List TableRow) → IsBuilt self.builder rows (D.seen disk.old self.builder.file) → IsReady table (D.seen disk.new) (D.sizes disk.new)) }
-        ensures rows { IfFinished result (λ table. (rows : List TableRow) → IsBuilt self.builder rows (D.seen disk.old self.builder.file) → HoldsRows table (D.seen disk.new) rows) }
-        ensures durable { IfFinished result (λ table. IsDurable self.builder.file (D.seen disk.new) (D.images disk.new)) }
-        ensures writes { WritesOnly D.seen D.sizes D.images D.moment D.images_since D.faults D.lasts D.fails self.builder.file disk.old disk.new result }
+        ensures ready { IfFinished result
+            (λ table. (rows : List TableRow) → IsBuilt self.builder rows (D.seen disk.old self.builder.file)
+            → IsReady table (D.seen disk.new) (D.sizes disk.new)) }
+        ensures rows { IfFinished result
+            (λ table. (rows : List TableRow) → IsBuilt self.builder rows (D.seen disk.old self.builder.file)
+            → HoldsRows table (D.seen disk.new) rows) }
+        ensures durable { IfFinished result
+            (λ table. IsDurable self.builder.file (D.seen disk.new) (D.images disk.new)) }
+        ensures writes { WritesOnly D.seen D.sizes D.images D.moment D.images_since D.faults D.lasts D.fails
+            self.builder.file disk.old disk.new result }
         ensures answer { IsMemoryAnswer result }
     {
         let table = self.builder.finish(disk)?;
@@ -171,9 +187,12 @@ fn put<D: Disk>(
 ) -> Result<(), TableFault>
     requires attr { IsMarked attr }
     requires growing { IsGrowing builder.old (D.sizes disk.old) }
-    ensures put { OnOk result (IsPut builder.old builder.new key.now attr (D.seen disk.old builder.old.file) (D.seen disk.new builder.old.file)) }
+    ensures put { OnOk result
+        (IsPut builder.old builder.new key.now attr (D.seen disk.old builder.old.file)
+        (D.seen disk.new builder.old.file)) }
     ensures growing { OnOk result (IsGrowing builder.new (D.sizes disk.new)) }
-    ensures writes { WritesOnly D.seen D.sizes D.images D.moment D.images_since D.faults D.lasts D.fails builder.old.file disk.old disk.new result }
+    ensures writes { WritesOnly D.seen D.sizes D.images D.moment D.images_since D.faults D.lasts D.fails
+        builder.old.file disk.old disk.new result }
     ensures answer { IsMemoryAnswer result }
 {
     match attr {

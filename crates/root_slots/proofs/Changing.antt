@@ -18,7 +18,7 @@ use Rattle.root_slots.specs.declared.root_slots.Force.{Force}
 use Rattle.root_slots.specs.declared.root_slots.RootSlots.{RootSlots}
 use Rattle.root_slots.specs.declared.root_slots.Step.TheVariants.{Begun, Filled}
 use Rattle.root_slots.specs.Root.{is_root}
-use Rattle.root_slots.specs.Slot.{chosen, place_of, other_of, behind, content_at, open_content, root_content, root_read, found_in}
+use Rattle.root_slots.specs.Slot.{chosen, offset_of, other_of, behind, content_at, open_content, root_content, root_read, found_in}
 use Rattle.root_slots.specs.Slots.{spare, emptied, filled, opened, filled_root, IsAbove, IsForce, IsFilled, IsOldOrNew, Stands}
 use Rattle.root_slots.proofs.Choice.{whole_found, none_in, root_held, none_found, some_found, same_found, stays_in_force, comes_in}
 use Rattle.root_slots.proofs.Windows.{get_left, place_small, apart, content_closed, content_open, gate_shut, torn_apart, torn_gate, torn_gate_content, torn_behind, length-put, put_torn, put_gate, put_behind}
@@ -26,28 +26,28 @@ use Rattle.root_slots.proofs.Windows.{get_left, place_small, apart, content_clos
 -- ---- for any slot in force
 
 -- the slot beside the one that is written
-other_kept : (slot : Slot) (at count : ℕ) (old new : List ℕ) → 2048 ≤ length old → IsTorn at count old new → place_of slot ≤ at → at + count ≤ place_of slot + 1024
+other_kept : (slot : Slot) (at count : ℕ) (old new : List ℕ) → 2048 ≤ length old → IsTorn at count old new → offset_of slot ≤ at → at + count ≤ offset_of slot + 1024
     → content_at new (other_of slot) ≡ content_at old (other_of slot)
 other_kept slot at count old new whole torn low high =
-    torn_apart (other_of slot) at count old new whole torn (⊎_elim (λ (below : place_of slot + 1024 ≤ place_of (other_of slot)). inl (omega arith)) (λ (above : place_of (other_of slot) + 1024 ≤ place_of slot). inr (omega arith)) (apart slot))
+    torn_apart (other_of slot) at count old new whole torn (⊎_elim (λ (below : offset_of slot + 1024 ≤ offset_of (other_of slot)). inl (omega arith)) (λ (above : offset_of (other_of slot) + 1024 ≤ offset_of slot). inr (omega arith)) (apart slot))
 
 back : (slot : Slot) (P : Slot → Type 0) → P (other_of (other_of slot)) → P slot
 back First P is = is
 back Second P is = is
 
-pub gate_is_open : (slot : Slot) (file : List ℕ) (root : Root) → content_at file slot ≡ Open root → slice_index file (place_of slot) ≡ 1
-gate_is_open slot file root is = ⊎_elim (λ opened. opened) (λ shut. absurd (apart_content root (sym (content_closed slot file shut) ∙ is))) (cases_eq (slice_index file (place_of slot)) 1)
+pub gate_is_open : (slot : Slot) (file : List ℕ) (root : Root) → content_at file slot ≡ Open root → slice_index file (offset_of slot) ≡ 1
+gate_is_open slot file root is = ⊎_elim (λ opened. opened) (λ shut. absurd (apart_content root (sym (content_closed slot file shut) ∙ is))) (cases_eq (slice_index file (offset_of slot)) 1)
   where
     apart_content : (root : Root) → Closed ≡ Open root → ⊥
     apart_content root same = cc
 
-close_found : (force : Option Force) (old new : List ℕ) → 2048 ≤ length old → IsForce force (found_in old) → slice_index old (place_of (spare force)) ≡ 1 → IsTorn (place_of (spare force)) 1 old new → found_in new ≡ found_in old
+close_found : (force : Option Force) (old new : List ℕ) → 2048 ≤ length old → IsForce force (found_in old) → slice_index old (offset_of (spare force)) ≡ 1 → IsTorn (offset_of (spare force)) 1 old new → found_in new ≡ found_in old
 close_found None old new whole is gate torn = absurd (gate_shut First old (none_in old First whole (none_found (found_in old) is)) gate)
 close_found (Some force) old new whole is gate torn =
     let longer : 2048 ≤ length new = omega (arith, torn.no_shorter) in
     let slot = other_of force.slot in
     let has = some_found (found_in old) force is in
-    let there = other_kept slot (place_of slot) 1 old new whole torn (omega arith) (omega arith) in
+    let there = other_kept slot (offset_of slot) 1 old new whole torn (omega arith) (omega arith) in
     let here = back force.slot (λ s. content_at new s ≡ content_at old s) there in
     ⊎_elim (λ shut. stays_in_force old new force.slot has.root whole longer has.is here shut ∙ sym has.is)
     (λ same. same_found old new slot whole longer (same ∙ sym (content_open slot old gate)) there)
@@ -55,7 +55,7 @@ close_found (Some force) old new whole is gate torn =
 
 -- the slot beside the one in which a root comes into force
 other_gate : (force : Option Force) (old new : List ℕ) → 2048 ≤ length old → IsForce force (found_in old) → content_at new (other_of (spare force)) ≡ content_at old (other_of (spare force))
-    → is_some force ≡ true → slice_index new (place_of (other_of (spare force))) ≡ 1
+    → is_some force ≡ true → slice_index new (offset_of (other_of (spare force))) ≡ 1
 other_gate None old new whole is same some = cc
 other_gate (Some force) old new whole is same some =
     let has = some_found (found_in old) force is in
@@ -63,12 +63,12 @@ other_gate (Some force) old new whole is same some =
     let here = back force.slot P same in
     forth force.slot (gate_is_open force.slot new has.root (here ∙ root_held old force.slot has.root whole has.is))
   where
-    forth : (slot : Slot) → slice_index new (place_of slot) ≡ 1 → slice_index new (place_of (other_of (other_of slot))) ≡ 1
+    forth : (slot : Slot) → slice_index new (offset_of slot) ≡ 1 → slice_index new (offset_of (other_of (other_of slot))) ≡ 1
     forth First gate = gate
     forth Second gate = gate
 
 other_shut : (force : Option Force) (old new : List ℕ) → 2048 ≤ length old → IsForce force (found_in old) → content_at new (other_of (spare force)) ≡ content_at old (other_of (spare force))
-    → is_some force ≡ false → slice_index new (place_of (other_of (spare force))) ≡ 1 → ⊥
+    → is_some force ≡ false → slice_index new (offset_of (other_of (spare force))) ≡ 1 → ⊥
 other_shut None old new whole is same none gate = gate_shut Second new (same ∙ none_in old Second whole (none_found (found_in old) is)) gate
 other_shut (Some force) old new whole is same none gate = cc
 
@@ -97,7 +97,7 @@ module _ (slots : RootSlots) (file : List ℕ) (stands : Stands slots file) (mad
   slot = spare slots.force
 
   abbrev at : ℕ
-  at = place_of (spare slots.force)
+  at = offset_of (spare slots.force)
 
   whole : 2048 ≤ length file
   whole = stands.whole made
@@ -257,6 +257,6 @@ module _ (old zeros : List ℕ) (short : length old < 2048) (are : zeros ≡ rep
         short = λ unmade. (let no : true ≡ false = sym made ∙ unmade in cc);
         force = subst (λ f. IsForce f (found_in new)) (sym none) (subst (IsForce None) (sym (made_torn new torn)) tt);
         gate_open = λ is_open. (let no : true ≡ false = sym is_open ∙ shut in cc);
-        gate_closed = λ _ _ is. omega (arith, gate, ap (λ f. slice_index new (place_of (spare f))) (sym none) ∙ is);
+        gate_closed = λ _ _ is. omega (arith, gate, ap (λ f. slice_index new (offset_of (spare f))) (sym none) ∙ is);
         filled = subst (λ s. IsFilled s slots new) (sym begun) tt;
       }

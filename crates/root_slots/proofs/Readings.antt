@@ -15,7 +15,7 @@ use Rattle.root_slots.specs.declared.content.Found.TheVariants.{New, InForce, Da
 use Rattle.root_slots.specs.declared.root_slots.RootSlots.{RootSlots}
 use Rattle.root_slots.specs.declared.root_slots.Step.TheVariants.{Begun}
 use Rattle.root_slots.specs.Root.{is_root}
-use Rattle.root_slots.specs.Slot.{HoldsRoot, FindsRoot, place_of, other_of, content_at, open_content, chosen, found_in, is_open, are_slots, root_of, root_in, HasNoRoot}
+use Rattle.root_slots.specs.Slot.{HoldsRoot, FindsRoot, offset_of, other_of, content_at, open_content, chosen, found_in, is_open, are_slots, root_of, root_in, HasNoRoot}
 use Rattle.root_slots.specs.Slots.{answer_of, value_of, HasRootCause, IsRead, IsAsRead, IsForce, Stands, IsKept, IsReady}
 use Rattle.root_slots.proofs.Choice.{IsSound, IsChosen, is_chosen, whole_found, none_in, root_held, other_sound}
 use Rattle.root_slots.proofs.Windows.{content_closed, content_open, gate_shut}
@@ -28,12 +28,12 @@ gate_read file gate at is =
     let there : at + 0 ≡ at = omega arith in
     ap (λ l. get_or l 0 0) is ∙ get_or-take 1 (drop at file) 0 0 (omega arith) ∙ get_or-drop at file 0 0 ∙ ap (λ n. get_or file n 0) there
 
-pub closed_read : (seen : Option (List ℕ)) (slot : Slot) (at : ℕ) (gate : List ℕ) → at ≡ place_of slot → OnTold seen (λ file. gate ≡ take 1 (drop at file)) → (slice_index gate 0 ≡ 1 → ⊥) → OnTold seen (λ file. Closed ≡ content_at file slot)
+pub closed_read : (seen : Option (List ℕ)) (slot : Slot) (at : ℕ) (gate : List ℕ) → at ≡ offset_of slot → OnTold seen (λ file. gate ≡ take 1 (drop at file)) → (slice_index gate 0 ≡ 1 → ⊥) → OnTold seen (λ file. Closed ≡ content_at file slot)
 closed_read None slot at gate there read shut = tt
 closed_read (Some file) slot at gate there read shut =
     sym (content_closed slot file (λ is. shut (gate_read file gate at read ∙ ap (slice_index file) there ∙ is)))
 
-pub open_read : (seen : Option (List ℕ)) (slot : Slot) (at next : ℕ) (gate bytes : List ℕ) → at ≡ place_of slot → next ≡ place_of slot → OnTold seen (λ file. gate ≡ take 1 (drop at file)) → slice_index gate 0 ≡ 1
+pub open_read : (seen : Option (List ℕ)) (slot : Slot) (at next : ℕ) (gate bytes : List ℕ) → at ≡ offset_of slot → next ≡ offset_of slot → OnTold seen (λ file. gate ≡ take 1 (drop at file)) → slice_index gate 0 ≡ 1
     → OnTold seen (λ file. bytes ≡ take 1023 (drop (next + 1) file)) → OnTold seen (λ file. open_content bytes ≡ content_at file slot)
 open_read None slot at next gate bytes there next_there read is rest = tt
 open_read (Some file) slot at next gate bytes there next_there read is rest =

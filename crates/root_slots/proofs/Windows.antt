@@ -15,43 +15,43 @@ use Rattle.root_slots.specs.declared.content.Flaw.{Flaw}
 use Rattle.root_slots.specs.declared.content.Flaw.TheVariants.{Count, Range}
 use Rattle.root_slots.specs.declared.root.Root.{Root}
 use Rattle.root_slots.specs.Root.{is_root}
-use Rattle.root_slots.specs.Slot.{place_of, other_of, behind, content_at, open_content, root_content, root_read}
+use Rattle.root_slots.specs.Slot.{offset_of, other_of, behind, content_at, open_content, root_content, root_read}
 
-pub place_small : (slot : Slot) → place_of slot ≤ 1024
+pub place_small : (slot : Slot) → offset_of slot ≤ 1024
 place_small First = omega arith
 place_small Second = omega arith
 
 -- the one slot ends where the other begins
-pub apart : (slot : Slot) → (place_of slot + 1024 ≤ place_of (other_of slot)) ⊎ (place_of (other_of slot) + 1024 ≤ place_of slot)
+pub apart : (slot : Slot) → (offset_of slot + 1024 ≤ offset_of (other_of slot)) ⊎ (offset_of (other_of slot) + 1024 ≤ offset_of slot)
 apart First = inl (omega arith)
 apart Second = inr (omega arith)
 
 -- ---- a slot whose bytes stay
 
 length-behind : (slot : Slot) (file : List ℕ) → 2048 ≤ length file → length (behind file slot) ≡ 1023
-length-behind slot file whole = length-take-le 1023 (drop (place_of slot + 1) file) (omega (arith, length-drop (place_of slot + 1) file, place_small slot))
+length-behind slot file whole = length-take-le 1023 (drop (offset_of slot + 1) file) (omega (arith, length-drop (offset_of slot + 1) file, place_small slot))
 
 pub behind_kept : (slot : Slot) (old new : List ℕ) → 2048 ≤ length old → 2048 ≤ length new
-    → ((place : ℕ) → place_of slot < place → place < place_of slot + 1024 → slice_index new place ≡ slice_index old place) → behind new slot ≡ behind old slot
+    → ((place : ℕ) → offset_of slot < place → place < offset_of slot + 1024 → slice_index new place ≡ slice_index old place) → behind new slot ≡ behind old slot
 behind_kept slot old new whole longer same =
     ext_get_or 0 (behind new slot) (behind old slot) (length-behind slot new longer ∙ sym (length-behind slot old whole)) (λ i within.
     let short : i < 1023 = omega (arith, length-behind slot new longer) in
-    get_or-take 1023 (drop (place_of slot + 1) new) i 0 short ∙ get_or-drop (place_of slot + 1) new i 0
-    ∙ same (place_of slot + 1 + i) (omega arith) (omega arith)
-    ∙ sym (get_or-take 1023 (drop (place_of slot + 1) old) i 0 short ∙ get_or-drop (place_of slot + 1) old i 0))
+    get_or-take 1023 (drop (offset_of slot + 1) new) i 0 short ∙ get_or-drop (offset_of slot + 1) new i 0
+    ∙ same (offset_of slot + 1 + i) (omega arith) (omega arith)
+    ∙ sym (get_or-take 1023 (drop (offset_of slot + 1) old) i 0 short ∙ get_or-drop (offset_of slot + 1) old i 0))
 
 -- what a slot holds is a matter of its gate and of what stands behind it
-pub same_content : (slot : Slot) (old new : List ℕ) → slice_index new (place_of slot) ≡ slice_index old (place_of slot) → behind new slot ≡ behind old slot → content_at new slot ≡ content_at old slot
+pub same_content : (slot : Slot) (old new : List ℕ) → slice_index new (offset_of slot) ≡ slice_index old (offset_of slot) → behind new slot ≡ behind old slot → content_at new slot ≡ content_at old slot
 same_content slot old new gate tail =
     ap (λ (g : ℕ). if g == 1 then open_content (behind new slot) else Closed) gate
-    ∙ ap (λ bytes. if slice_index old (place_of slot) == 1 then open_content bytes else Closed) tail
+    ∙ ap (λ bytes. if slice_index old (offset_of slot) == 1 then open_content bytes else Closed) tail
 
-pub content_closed : (slot : Slot) (file : List ℕ) → (slice_index file (place_of slot) ≡ 1 → ⊥) → content_at file slot ≡ Closed
+pub content_closed : (slot : Slot) (file : List ℕ) → (slice_index file (offset_of slot) ≡ 1 → ⊥) → content_at file slot ≡ Closed
 content_closed slot file shut =
-    let no : (slice_index file (place_of slot) == 1) ≡ false = grind (arith, nat_tests) in
+    let no : (slice_index file (offset_of slot) == 1) ≡ false = grind (arith, nat_tests) in
     ap (λ (b : Bool). if b then open_content (behind file slot) else Closed) no
 
-pub content_open : (slot : Slot) (file : List ℕ) → slice_index file (place_of slot) ≡ 1 → content_at file slot ≡ open_content (behind file slot)
+pub content_open : (slot : Slot) (file : List ℕ) → slice_index file (offset_of slot) ≡ 1 → content_at file slot ≡ open_content (behind file slot)
 content_open slot file is = ap (λ (g : ℕ). if g == 1 then open_content (behind file slot) else Closed) is
 
 -- behind an open gate stands a root, or something damaged
@@ -68,30 +68,30 @@ root_not root = if_not (is_root root) (Open root) (Bad Range) (λ is. cc) (bad_n
 pub open_not_closed : (bytes : List ℕ) → open_content bytes ≡ Closed → ⊥
 open_not_closed bytes = if_not _ _ _ (bad_not Count) (if_not _ _ _ (root_not (root_read bytes)) (bad_not _))
 
-pub gate_shut : (slot : Slot) (file : List ℕ) → content_at file slot ≡ Closed → slice_index file (place_of slot) ≡ 1 → ⊥
+pub gate_shut : (slot : Slot) (file : List ℕ) → content_at file slot ≡ Closed → slice_index file (offset_of slot) ≡ 1 → ⊥
 gate_shut slot file closed is = open_not_closed (behind file slot) (sym (content_open slot file is) ∙ closed)
 
 -- ---- a write that a crash cuts short
 
 -- into the other slot
-pub torn_apart : (slot : Slot) (at count : ℕ) (old new : List ℕ) → 2048 ≤ length old → IsTorn at count old new → (at + count ≤ place_of slot) ⊎ (place_of slot + 1024 ≤ at) → content_at new slot ≡ content_at old slot
+pub torn_apart : (slot : Slot) (at count : ℕ) (old new : List ℕ) → 2048 ≤ length old → IsTorn at count old new → (at + count ≤ offset_of slot) ⊎ (offset_of slot + 1024 ≤ at) → content_at new slot ≡ content_at old slot
 torn_apart slot at count old new whole torn there =
-    let same : (place : ℕ) → place_of slot ≤ place → place < place_of slot + 1024 → slice_index new place ≡ slice_index old place = λ place low high.
+    let same : (place : ℕ) → offset_of slot ≤ place → place < offset_of slot + 1024 → slice_index new place ≡ slice_index old place = λ place low high.
     ⊎_elim (λ below. torn.behind place (omega arith) (omega (arith, place_small slot))) (λ above. torn.before place (omega arith) (omega (arith, place_small slot))) there in
-    same_content slot old new (same (place_of slot) (omega arith) (omega arith)) (behind_kept slot old new whole (omega (arith, torn.no_shorter)) (λ place low high. same place (omega arith) high))
+    same_content slot old new (same (offset_of slot) (omega arith) (omega arith)) (behind_kept slot old new whole (omega (arith, torn.no_shorter)) (λ place low high. same place (omega arith) high))
 
 -- over the gate
-pub torn_gate : (slot : Slot) (old new : List ℕ) → 2048 ≤ length old → IsTorn (place_of slot) 1 old new → behind new slot ≡ behind old slot
+pub torn_gate : (slot : Slot) (old new : List ℕ) → 2048 ≤ length old → IsTorn (offset_of slot) 1 old new → behind new slot ≡ behind old slot
 torn_gate slot old new whole torn = behind_kept slot old new whole (omega (arith, torn.no_shorter)) (λ place low high. torn.behind place (omega arith) (omega (arith, place_small slot)))
 
-pub torn_gate_content : (slot : Slot) (old new : List ℕ) → 2048 ≤ length old → IsTorn (place_of slot) 1 old new → (content_at new slot ≡ Closed) ⊎ (content_at new slot ≡ open_content (behind old slot))
+pub torn_gate_content : (slot : Slot) (old new : List ℕ) → 2048 ≤ length old → IsTorn (offset_of slot) 1 old new → (content_at new slot ≡ Closed) ⊎ (content_at new slot ≡ open_content (behind old slot))
 torn_gate_content slot old new whole torn =
-    ⊎_elim (λ is. inr (content_open slot new is ∙ ap open_content (torn_gate slot old new whole torn))) (λ shut. inl (content_closed slot new shut)) (cases_eq (slice_index new (place_of slot)) 1)
+    ⊎_elim (λ is. inr (content_open slot new is ∙ ap open_content (torn_gate slot old new whole torn))) (λ shut. inl (content_closed slot new shut)) (cases_eq (slice_index new (offset_of slot)) 1)
 
 -- behind the gate
-pub torn_behind : (slot : Slot) (count : ℕ) (old new : List ℕ) → 2048 ≤ length old → IsTorn (place_of slot + 1) count old new → (slice_index old (place_of slot) ≡ 1 → ⊥) → content_at new slot ≡ Closed
+pub torn_behind : (slot : Slot) (count : ℕ) (old new : List ℕ) → 2048 ≤ length old → IsTorn (offset_of slot + 1) count old new → (slice_index old (offset_of slot) ≡ 1 → ⊥) → content_at new slot ≡ Closed
 torn_behind slot count old new whole torn shut =
-    let gate : slice_index new (place_of slot) ≡ slice_index old (place_of slot) = torn.before (place_of slot) (omega arith) (omega (arith, place_small slot)) in
+    let gate : slice_index new (offset_of slot) ≡ slice_index old (offset_of slot) = torn.before (offset_of slot) (omega arith) (omega (arith, place_small slot)) in
     content_closed slot new (λ is. shut (sym gate ∙ is))
 
 -- ---- a write that was done
@@ -132,9 +132,9 @@ put_gate file at gate within =
 
 -- the bytes that were written behind the gate
 pub put_behind : (slot : Slot) (file bytes : List ℕ) → 2048 ≤ length file → length bytes ≤ 1023
-    → behind (put file (place_of slot + 1) bytes) slot ≡ bytes ++ take (1023 - length bytes) (drop (place_of slot + 1 + length bytes) file)
+    → behind (put file (offset_of slot + 1) bytes) slot ≡ bytes ++ take (1023 - length bytes) (drop (offset_of slot + 1 + length bytes) file)
 put_behind slot file bytes whole fits =
-    let at = place_of slot + 1 in
+    let at = offset_of slot + 1 in
     let front = length-take-le at file (omega (arith, place_small slot)) in
     let width : 1023 ≡ length bytes + (1023 - length bytes) = omega arith in
     ap (λ l. take 1023 (drop at l)) (put_split file bytes at) ∙ ap (take 1023) (drop_at (take at file) (bytes ++ drop (at + length bytes) file) at front)

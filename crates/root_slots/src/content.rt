@@ -1,7 +1,8 @@
 //! What file 0 says: the content of its slots, and which of them counts.
 ghost use Rattle.std.specs.Prelude.{◌≡◌, ◌+◌, ◌*◌, ◌≤◌, length, slice_index, IfOk};
 ghost use Rattle.root_slots.specs.declared.content.Content.TheVariants.{Bad, Open};
-ghost use Rattle.root_slots.specs.Slot.{HoldsRoot, FindsRoot, tables_in, root_read, open_content, place_of, other_of, rank_of, damaged, is_open, chosen};
+ghost use Rattle.root_slots.specs.Slot.{HoldsRoot, FindsRoot, tables_in, root_read, open_content, offset_of, other_of};
+ghost use Rattle.root_slots.specs.Slot.{rank_of, damaged, is_open, chosen};
 
 use crate::root::{FileList, Root};
 use crate::root_slots::SlotDamage;
@@ -19,8 +20,8 @@ pub(crate) enum Slot {
 
 impl Slot {
     /// The place of its gate in the file.
-    pub(crate) fn place(self) -> u64
-        ensures place { result ≡ place_of self }
+    pub(crate) fn offset(self) -> u64
+        ensures offset { result ≡ offset_of self }
         ensures small { result ≤ 1024 }
     {
         match self {
@@ -46,7 +47,7 @@ pub(crate) enum Flaw {
     Count,
     /// The sum that is kept at this place behind the gate is not that of the bytes before it.
     WrongSum {
-        place: u16,
+        offset: u16,
         kept: [u8; SUM_BYTES],
         found: [u8; SUM_BYTES],
     },
@@ -70,15 +71,19 @@ impl Flaw {
     {
         match self {
             Flaw::Count => Found::Damaged {
-                place: slot.place(),
+                offset: slot.offset(),
                 damage: SlotDamage::Spelling,
             },
-            Flaw::WrongSum { place, kept, found } => Found::Damaged {
-                place: slot.place() + 1 + u64::from(place),
+            Flaw::WrongSum {
+                offset,
+                kept,
+                found,
+            } => Found::Damaged {
+                offset: slot.offset() + 1 + u64::from(offset),
                 damage: SlotDamage::Sum { kept, found },
             },
             Flaw::Range => Found::Damaged {
-                place: slot.place(),
+                offset: slot.offset(),
                 damage: SlotDamage::Spelling,
             },
         }
@@ -112,7 +117,7 @@ pub(crate) enum Found {
     /// This root is in force, in this slot.
     InForce { slot: Slot, root: Root },
     /// An open slot is damaged, from this place of the file on.
-    Damaged { place: u64, damage: SlotDamage },
+    Damaged { offset: u64, damage: SlotDamage },
 }
 
 /// What stands behind an open gate.
@@ -125,13 +130,13 @@ pub(crate) fn behind_gate(alloc: Global, bytes: &[u8]) -> Result<Content, AllocE
     if count > TABLES_MOST {
         return Ok(Content::Bad(Flaw::Count));
     }
-    let place = TABLES_AT + 4 * count;
+    let offset = TABLES_AT + 4 * count;
     let mut kept = [0; SUM_BYTES];
-    kept.copy_from_slice(&bytes[place..place + SUM_BYTES]);
-    let found = Md5::digest(&bytes[..place]);
+    kept.copy_from_slice(&bytes[offset..offset + SUM_BYTES]);
+    let found = Md5::digest(&bytes[..offset]);
     if kept != found {
         return Ok(Content::Bad(Flaw::WrongSum {
-            place: place as u16,
+            offset: offset as u16,
             kept,
             found,
         }));

@@ -17,7 +17,8 @@ use std::alloc::Global;
 pub(crate) fn synced_length<D: Disk>(disk: &mut D) -> Result<u64, DiskFault>
     ensures size { IfOk result (λ size. D.sizes disk.new 0 ≡ Some size) }
     ensures short { IfOk result (λ size. size < 2 ^ 63) }
-    ensures durable { OnOk result (OnTold (D.seen disk.new 0) (λ file. (image : Image) → D.images disk.new image → image 0 ≡ file)) }
+    ensures durable { OnOk result
+        (OnTold (D.seen disk.new 0) (λ file. (image : Image) → D.images disk.new image → image 0 ≡ file)) }
     ensures unchanged { IsUnchanged (D.seen disk.old) (D.seen disk.new) (D.sizes disk.old) (D.sizes disk.new) }
     ensures any_moment { LeavesOnly D.moment D.images_since disk.old disk.new (D.images disk.old) }
     ensures crash { (image : Image) → D.images disk.new image → D.images disk.old image }
@@ -84,12 +85,12 @@ fn read_slot<D: Disk>(
     ensures asked { D.asked disk.new ≤ D.asked disk.old + 2 }
 {
     let mut gate = [0; 1];
-    read_at(disk, slot.place(), &mut gate)?;
+    read_at(disk, slot.offset(), &mut gate)?;
     if gate[0] != OPEN {
         return Ok(Content::Closed);
     }
     let mut bytes = [0; BEHIND_BYTES];
-    read_at(disk, slot.place() + 1, &mut bytes)?;
+    read_at(disk, slot.offset() + 1, &mut bytes)?;
     Ok(behind_gate(alloc, &bytes)?)
 }
 
@@ -97,7 +98,8 @@ fn read_slot<D: Disk>(
 fn read_at<D: Disk>(disk: &mut D, at: u64, into: &mut [u8]) -> Result<(), DiskFault>
     requires short { at + length into.old < 2 ^ 63 }
     requires within { OnTold (D.sizes disk.old 0) (λ size. at + length into.old ≤ size) }
-    ensures bytes { OnOk result (OnTold (D.seen disk.old 0) (λ bytes. into.new ≡ take (length into.old) (drop at bytes))) }
+    ensures bytes { OnOk result
+        (OnTold (D.seen disk.old 0) (λ bytes. into.new ≡ take (length into.old) (drop at bytes))) }
     ensures unchanged { IsUnchanged (D.seen disk.old) (D.seen disk.new) (D.sizes disk.old) (D.sizes disk.new) }
     ensures crash { AreSame (D.images disk.old) (D.images disk.new) }
     ensures any_moment { LeavesOnly D.moment D.images_since disk.old disk.new (D.images disk.old) }

@@ -1,11 +1,14 @@
 //! The two slots of a disk.
-ghost use Rattle.std.specs.Prelude.{◌≡◌, ◌≢◌, ◌⊎◌, ◌+◌, ◌≤◌, ℕ, true, false, Ok, Err, Some, None, IfOk, IfSome, OnOk, OnErr, IsErrOf};
+ghost use Rattle.std.specs.Prelude.{◌≡◌, ◌≢◌, ◌⊎◌, ◌+◌, ◌≤◌, ℕ, true, false, Ok, Err, Some, None, IfOk, IfSome, OnOk};
+ghost use Rattle.std.specs.Prelude.{OnErr, IsErrOf};
 ghost use Rattle.gate_log.specs.LogState.{IsElsewhereOld};
-ghost use Rattle.mds_out.specs.Disk.{LeavesOnly, IsUnchanged, IsElsewhereUnchanged, Tells};
+ghost use Rattle.mds_out.specs.Disk.{LeavesOnly, IsUnchanged, IsElsewhereUnchanged, Tells, StaysTold};
 ghost use Rattle.mds_out.specs.Known.{OnTold};
 ghost use Rattle.root_slots.specs.Root.{is_root};
-ghost use Rattle.root_slots.specs.Slot.{found_in, place_of};
-ghost use Rattle.root_slots.specs.Slots.{root_fault_of, answer_of, value_of, spare, emptied, filled, opened, with_file, filled_root, IsAbove, IsReady, IsOldOrNew, IsDiskAnswer, IsRead, IsAsRead, HasRootCause};
+ghost use Rattle.root_slots.specs.Slot.{found_in, offset_of};
+ghost use Rattle.root_slots.specs.Slots.{root_fault_of, answer_of, value_of, spare, emptied, filled, opened, with_file};
+ghost use Rattle.root_slots.specs.Slots.{filled_root, IsAbove, IsReady, IsOldOrNew, IsDiskAnswer, IsRead, IsAsRead};
+ghost use Rattle.root_slots.specs.Slots.{HasRootCause};
 ghost use Rattle.root_slots.specs.declared.content.Found.TheVariants.{New, InForce};
 ghost use Rattle.root_slots.specs.declared.root_slots.Step.TheVariants.{Begun, Filled};
 ghost use Rattle.root_slots.specs.Crash.{OtherFilesAreFree, RootDecides};
@@ -40,8 +43,8 @@ pub enum RootFault {
     #[error("the slots have stopped")]
     Stopped,
     /// An open slot is damaged, from this byte of file 0 on.
-    #[error("damaged root at byte {place}")]
-    Bad { place: u64, damage: SlotDamage },
+    #[error("damaged root at byte {offset}")]
+    Bad { offset: u64, damage: SlotDamage },
     /// There was no memory, and the disk's count of faults is as before: it never stands for a fault of the device.
     /// Where the disk found none, the slots have stopped.
     #[error("out of memory")]
@@ -151,14 +154,20 @@ impl RootSlots {
     pub fn make_file<D: Disk>(&mut self, disk: &mut D) -> Result<(), RootFault>
         requires unmade { self.old.made ≡ false }
         requires begun { (self.old.force ≡ None) × (self.old.spare_open ≡ false) × (self.old.step ≡ Begun) }
-        requires ready { self.old.stopped ≡ false → IsReady self.old (D.seen disk.old) (D.sizes disk.old) (D.images disk.old) }
+        requires ready { self.old.stopped ≡ false
+            → IsReady self.old (D.seen disk.old) (D.sizes disk.old) (D.images disk.old) }
         ensures made { OnOk result (self.new ≡ with_file self.old) }
         ensures ready { OnOk result (IsReady self.new (D.seen disk.new) (D.sizes disk.new) (D.images disk.new)) }
-        ensures any_moment { self.old.stopped ≡ false → OnTold (D.seen disk.old 0) (λ _. LeavesOnly D.moment D.images_since disk.old disk.new (λ image. found_in (image 0) ≡ New)) }
-        ensures stopped { self.old.stopped ≡ true → (result ≡ Err RootFault.Stopped) × (self.new ≡ self.old) × (disk.new ≡ disk.old) }
+        ensures any_moment { self.old.stopped ≡ false
+            → OnTold (D.seen disk.old 0)
+            (λ _. LeavesOnly D.moment D.images_since disk.old disk.new (λ image. found_in (image 0) ≡ New)) }
+        ensures stopped { self.old.stopped ≡ true
+            → (result ≡ Err RootFault.Stopped) × (self.new ≡ self.old) × (disk.new ≡ disk.old) }
         ensures answer { self.old.stopped ≡ false → IsDiskAnswer result }
         ensures stops { OnErr result (self.new ≡ record self.old { stopped = true }) }
-        ensures elsewhere { IsElsewhereUnchanged 0 (D.seen disk.old) (D.seen disk.new) (D.sizes disk.old) (D.sizes disk.new) }
+        ensures elsewhere { IsElsewhereUnchanged 0 (D.seen disk.old) (D.seen disk.new) (D.sizes disk.old)
+            (D.sizes disk.new) }
+        ensures told { StaysTold (D.seen disk.old 0) (D.seen disk.new 0) }
         ensures cause { HasRootCause (D.faults disk.old) (D.faults disk.new) result }
         ensures lasts { D.lasts disk.old disk.new }
         ensures failed { IsErrOf result RootFault.Device → D.fails disk.old disk.new }
@@ -182,17 +191,25 @@ impl RootSlots {
     /// Closes the slot that is not in force. It writes only where that gate is open.
     pub fn close_slot<D: Disk>(&mut self, disk: &mut D) -> Result<(), RootFault>
         requires made { self.old.made ≡ true }
-        requires ready { self.old.stopped ≡ false → IsReady self.old (D.seen disk.old) (D.sizes disk.old) (D.images disk.old) }
+        requires ready { self.old.stopped ≡ false
+            → IsReady self.old (D.seen disk.old) (D.sizes disk.old) (D.images disk.old) }
         ensures untouched { self.old.spare_open ≡ false → disk.new ≡ disk.old }
         ensures emptied { OnOk result (self.new ≡ emptied self.old) }
         ensures ready { OnOk result (IsReady self.new (D.seen disk.new) (D.sizes disk.new) (D.images disk.new)) }
-        ensures any_moment { self.old.stopped ≡ false → OnTold (D.seen disk.old 0) (λ file. LeavesOnly D.moment D.images_since disk.old disk.new (λ image. found_in (image 0) ≡ found_in file)) }
-        ensures kept { OnOk result (Tells (D.seen disk.old 0) (D.seen disk.new 0) (λ old new. found_in new ≡ found_in old)) }
-        ensures stopped { self.old.stopped ≡ true → (result ≡ Err RootFault.Stopped) × (self.new ≡ self.old) × (disk.new ≡ disk.old) }
+        ensures any_moment { self.old.stopped ≡ false
+            → OnTold (D.seen disk.old 0) (λ file. LeavesOnly D.moment D.images_since disk.old disk.new
+            (λ image. found_in (image 0) ≡ found_in file)) }
+        ensures kept { OnOk result
+            (Tells (D.seen disk.old 0) (D.seen disk.new 0) (λ old new. found_in new ≡ found_in old)) }
+        ensures stopped { self.old.stopped ≡ true
+            → (result ≡ Err RootFault.Stopped) × (self.new ≡ self.old) × (disk.new ≡ disk.old) }
         ensures answer { self.old.stopped ≡ false → IsDiskAnswer result }
         ensures stops { OnErr result (self.new ≡ record self.old { stopped = true }) }
-        ensures images_elsewhere { self.old.stopped ≡ false → LeavesOnly D.moment D.images_since disk.old disk.new (IsElsewhereOld 0 (D.images disk.old)) }
-        ensures elsewhere { IsElsewhereUnchanged 0 (D.seen disk.old) (D.seen disk.new) (D.sizes disk.old) (D.sizes disk.new) }
+        ensures images_elsewhere { self.old.stopped ≡ false
+            → LeavesOnly D.moment D.images_since disk.old disk.new (IsElsewhereOld 0 (D.images disk.old)) }
+        ensures elsewhere { IsElsewhereUnchanged 0 (D.seen disk.old) (D.seen disk.new) (D.sizes disk.old)
+            (D.sizes disk.new) }
+        ensures told { StaysTold (D.seen disk.old 0) (D.seen disk.new 0) }
         ensures cause { HasRootCause (D.faults disk.old) (D.faults disk.new) result }
         ensures lasts { D.lasts disk.old disk.new }
         ensures failed { IsErrOf result RootFault.Device → D.fails disk.old disk.new }
@@ -206,8 +223,8 @@ impl RootSlots {
             self.step = Step::Emptied;
             return Ok(());
         }
-        let place = self.spare_place();
-        match close_at(disk, self, place) {
+        let offset = self.spare_offset();
+        match close_at(disk, self, offset) {
             Ok(()) => {
                 self.spare_open = false;
                 self.step = Step::Emptied;
@@ -232,17 +249,26 @@ impl RootSlots {
         requires emptied { self.old.spare_open ≡ false }
         requires root { is_root root.now ≡ true }
         requires above { IsAbove self.old.force root.now.number }
-        requires ready { self.old.stopped ≡ false → IsReady self.old (D.seen disk.old) (D.sizes disk.old) (D.images disk.old) }
+        requires ready { self.old.stopped ≡ false
+            → IsReady self.old (D.seen disk.old) (D.sizes disk.old) (D.images disk.old) }
         ensures filled { OnOk result (self.new ≡ filled self.old root.now.number) }
         ensures root { OnOk result (OnTold (D.seen disk.new 0) (λ file. filled_root self.new file ≡ root.now)) }
         ensures ready { OnOk result (IsReady self.new (D.seen disk.new) (D.sizes disk.new) (D.images disk.new)) }
-        ensures any_moment { self.old.stopped ≡ false → OnTold (D.seen disk.old 0) (λ file. LeavesOnly D.moment D.images_since disk.old disk.new (λ image. found_in (image 0) ≡ found_in file)) }
-        ensures kept { OnOk result (Tells (D.seen disk.old 0) (D.seen disk.new 0) (λ old new. found_in new ≡ found_in old)) }
-        ensures stopped { self.old.stopped ≡ true → (result ≡ Err RootFault.Stopped) × (self.new ≡ self.old) × (disk.new ≡ disk.old) }
+        ensures any_moment { self.old.stopped ≡ false
+            → OnTold (D.seen disk.old 0) (λ file. LeavesOnly D.moment D.images_since disk.old disk.new
+            (λ image. found_in (image 0) ≡ found_in file)) }
+        ensures kept { OnOk result
+            (Tells (D.seen disk.old 0) (D.seen disk.new 0) (λ old new. found_in new ≡ found_in old)) }
+        ensures stopped { self.old.stopped ≡ true
+            → (result ≡ Err RootFault.Stopped) × (self.new ≡ self.old) × (disk.new ≡ disk.old) }
         ensures answer { self.old.stopped ≡ false → IsDiskAnswer result }
-        ensures stops { OnErr result (((self.new ≡ self.old) × (disk.new ≡ disk.old)) ⊎ (self.new ≡ record self.old { stopped = true })) }
-        ensures images_elsewhere { self.old.stopped ≡ false → LeavesOnly D.moment D.images_since disk.old disk.new (IsElsewhereOld 0 (D.images disk.old)) }
-        ensures elsewhere { IsElsewhereUnchanged 0 (D.seen disk.old) (D.seen disk.new) (D.sizes disk.old) (D.sizes disk.new) }
+        ensures stops { OnErr result
+            (((self.new ≡ self.old) × (disk.new ≡ disk.old)) ⊎ (self.new ≡ record self.old { stopped = true })) }
+        ensures images_elsewhere { self.old.stopped ≡ false
+            → LeavesOnly D.moment D.images_since disk.old disk.new (IsElsewhereOld 0 (D.images disk.old)) }
+        ensures elsewhere { IsElsewhereUnchanged 0 (D.seen disk.old) (D.seen disk.new) (D.sizes disk.old)
+            (D.sizes disk.new) }
+        ensures told { StaysTold (D.seen disk.old 0) (D.seen disk.new 0) }
         ensures cause { HasRootCause (D.faults disk.old) (D.faults disk.new) result }
         ensures lasts { D.lasts disk.old disk.new }
         ensures failed { IsErrOf result RootFault.Device → D.fails disk.old disk.new }
@@ -252,8 +278,8 @@ impl RootSlots {
             return Err(RootFault::Stopped);
         }
         let bytes = spelled(alloc, root)?;
-        let place = self.spare_place();
-        match fill_at(disk, self, place, root, &bytes) {
+        let offset = self.spare_offset();
+        match fill_at(disk, self, offset, root, &bytes) {
             Ok(()) => {
                 self.step = Step::Filled(root.number);
                 Ok(())
@@ -271,16 +297,26 @@ impl RootSlots {
         requires made { self.old.made ≡ true }
         requires emptied { self.old.spare_open ≡ false }
         requires filled { (number : ℕ) × (self.old.step ≡ Filled number) }
-        requires ready { self.old.stopped ≡ false → IsReady self.old (D.seen disk.old) (D.sizes disk.old) (D.images disk.old) }
-        ensures opened { OnOk result ((number : ℕ) → self.old.step ≡ Filled number → self.new ≡ opened self.old number) }
+        requires ready { self.old.stopped ≡ false
+            → IsReady self.old (D.seen disk.old) (D.sizes disk.old) (D.images disk.old) }
+        ensures opened { OnOk result
+            ((number : ℕ) → self.old.step ≡ Filled number → self.new ≡ opened self.old number) }
         ensures ready { OnOk result (IsReady self.new (D.seen disk.new) (D.sizes disk.new) (D.images disk.new)) }
-        ensures any_moment { self.old.stopped ≡ false → OnTold (D.seen disk.old 0) (λ file. LeavesOnly D.moment D.images_since disk.old disk.new (λ image. IsOldOrNew self.old file (image 0))) }
-        ensures in_force { OnOk result (Tells (D.seen disk.old 0) (D.seen disk.new 0) (λ old new. found_in new ≡ InForce (spare self.old.force) (filled_root self.old old))) }
-        ensures stopped { self.old.stopped ≡ true → (result ≡ Err RootFault.Stopped) × (self.new ≡ self.old) × (disk.new ≡ disk.old) }
+        ensures any_moment { self.old.stopped ≡ false
+            → OnTold (D.seen disk.old 0) (λ file. LeavesOnly D.moment D.images_since disk.old disk.new
+            (λ image. IsOldOrNew self.old file (image 0))) }
+        ensures in_force { OnOk result
+            (Tells (D.seen disk.old 0) (D.seen disk.new 0)
+            (λ old new. found_in new ≡ InForce (spare self.old.force) (filled_root self.old old))) }
+        ensures stopped { self.old.stopped ≡ true
+            → (result ≡ Err RootFault.Stopped) × (self.new ≡ self.old) × (disk.new ≡ disk.old) }
         ensures answer { self.old.stopped ≡ false → IsDiskAnswer result }
         ensures stops { OnErr result (self.new ≡ record self.old { stopped = true }) }
-        ensures images_elsewhere { self.old.stopped ≡ false → LeavesOnly D.moment D.images_since disk.old disk.new (IsElsewhereOld 0 (D.images disk.old)) }
-        ensures elsewhere { IsElsewhereUnchanged 0 (D.seen disk.old) (D.seen disk.new) (D.sizes disk.old) (D.sizes disk.new) }
+        ensures images_elsewhere { self.old.stopped ≡ false
+            → LeavesOnly D.moment D.images_since disk.old disk.new (IsElsewhereOld 0 (D.images disk.old)) }
+        ensures elsewhere { IsElsewhereUnchanged 0 (D.seen disk.old) (D.seen disk.new) (D.sizes disk.old)
+            (D.sizes disk.new) }
+        ensures told { StaysTold (D.seen disk.old 0) (D.seen disk.new 0) }
         ensures cause { HasRootCause (D.faults disk.old) (D.faults disk.new) result }
         ensures lasts { D.lasts disk.old disk.new }
         ensures failed { IsErrOf result RootFault.Device → D.fails disk.old disk.new }
@@ -289,8 +325,8 @@ impl RootSlots {
         if self.stopped {
             return Err(RootFault::Stopped);
         }
-        let place = self.spare_place();
-        match open_at(disk, self, place) {
+        let offset = self.spare_offset();
+        match open_at(disk, self, offset) {
             Ok(()) => {
                 self.come_in();
                 Ok(())
@@ -325,11 +361,11 @@ impl RootSlots {
     }
 
     // The place of its gate.
-    fn spare_place(&self) -> u64
-        ensures place { result ≡ place_of (spare self.now.force) }
+    fn spare_offset(&self) -> u64
+        ensures offset { result ≡ offset_of (spare self.now.force) }
         ensures small { result ≤ 1024 }
     {
-        self.spare().place()
+        self.spare().offset()
     }
 }
 
@@ -344,7 +380,7 @@ fn settled(found: Found, both: bool) -> Result<(RootSlots, Option<Root>), RootFa
             let force = Some(Force { slot, number });
             Ok((RootSlots::of(true, force, both), Some(root)))
         }
-        Found::Damaged { place, damage } => Err(RootFault::Bad { place, damage }),
+        Found::Damaged { offset, damage } => Err(RootFault::Bad { offset, damage }),
     }
 }
 

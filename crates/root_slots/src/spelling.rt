@@ -36,7 +36,9 @@ fn before_sum(
     tables: &[u32],
 ) -> Result<Vec<u8>, AllocError>
     requires { length tables.now ≤ TABLES_MOST }
-    ensures bytes { IfOk result (λ bytes. bytes.items ≡ summed (record { number = number; state = state; log_file = log_file; tables = tables.now })) }
+    ensures bytes { IfOk result
+        (λ bytes. bytes.items
+        ≡ summed (record { number = number; state = state; log_file = log_file; tables = tables.now })) }
     ensures fits { (number < 2 ^ 64) × (state < 2 ^ 32) × (log_file < 2 ^ 32) }
     ensures tables_fit { (k : ℕ) → slice_index tables.now k < 2 ^ 32 }
 {

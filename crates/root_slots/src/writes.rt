@@ -13,13 +13,19 @@ use mds_out::{Disk, DiskFault};
 pub(crate) fn write_synced<D: Disk>(disk: &mut D, at: u64, bytes: &[u8]) -> Result<(), DiskFault>
     requires short { at + length bytes.now < 2 ^ 63 }
     requires within { OnTold (D.sizes disk.old 0) (λ size. at ≤ size) }
-    ensures written { OnOk result (Tells (D.seen disk.old 0) (D.seen disk.new 0) (λ old new. new ≡ put old at bytes.now)) }
-    ensures size { OnOk result (OnKnown (D.sizes disk.old 0) (D.sizes disk.new 0) (λ old new. new ≡ max old (at + length bytes.now))) }
+    ensures written { OnOk result
+        (Tells (D.seen disk.old 0) (D.seen disk.new 0) (λ old new. new ≡ put old at bytes.now)) }
+    ensures size { OnOk result
+        (OnKnown (D.sizes disk.old 0) (D.sizes disk.new 0) (λ old new. new ≡ max old (at + length bytes.now))) }
     ensures told { StaysTold (D.seen disk.old 0) (D.seen disk.new 0) }
-    ensures durable { OnOk result (OnTold (D.seen disk.new 0) (λ now. (image : Image) → D.images disk.new image → image 0 ≡ now)) }
-    ensures elsewhere { IsElsewhereUnchanged 0 (D.seen disk.old) (D.seen disk.new) (D.sizes disk.old) (D.sizes disk.new) }
-    ensures any_moment { LeavesOnly D.moment D.images_since disk.old disk.new (IsWrittenOver 0 at (length bytes.now) (D.images disk.old)) }
-    ensures crash { (image : Image) → D.images disk.new image → IsWrittenOver 0 at (length bytes.now) (D.images disk.old) image }
+    ensures durable { OnOk result
+        (OnTold (D.seen disk.new 0) (λ now. (image : Image) → D.images disk.new image → image 0 ≡ now)) }
+    ensures elsewhere { IsElsewhereUnchanged 0 (D.seen disk.old) (D.seen disk.new) (D.sizes disk.old)
+        (D.sizes disk.new) }
+    ensures any_moment { LeavesOnly D.moment D.images_since disk.old disk.new
+        (IsWrittenOver 0 at (length bytes.now) (D.images disk.old)) }
+    ensures crash { (image : Image) → D.images disk.new image
+        → IsWrittenOver 0 at (length bytes.now) (D.images disk.old) image }
     ensures cause { HasDiskCause (D.faults disk.old) (D.faults disk.new) result }
     ensures lasts { D.lasts disk.old disk.new }
     ensures failed { IsErrOf result DiskFault.Device → D.fails disk.old disk.new }

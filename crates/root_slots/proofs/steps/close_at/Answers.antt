@@ -11,23 +11,23 @@ use Rattle.root_slots.proofs.steps.close_at.Goals as goal
 
 pub returns-clause-ready : goal.returns-clause-ready
 returns-clause-ready g c = on_ok_three c.write_synced.result
-    (λ told size durable. ready_after c.args.slots.now (emptied c.args.slots.now) (g.D.Disk.seen c.args.disk.now) (g.D.Disk.seen c.write_synced.new.disk) (g.D.Disk.sizes c.args.disk.now) (g.D.Disk.sizes c.write_synced.new.disk) (g.D.Disk.images c.args.disk.now) (g.D.Disk.images c.write_synced.new.disk) c.args.place (0 ∷ []) c.requires.made c.requires.made
-    (λ file stands. subst (λ (n : ℕ). Stands (emptied c.args.slots.now) (put file n (0 ∷ []))) (sym c.requires.place) (closing_done c.args.slots.now file stands c.requires.made c.requires.is_open))
+    (λ told size durable. ready_after c.args.slots.now (emptied c.args.slots.now) (g.D.Disk.seen c.args.disk.now) (g.D.Disk.seen c.write_synced.new.disk) (g.D.Disk.sizes c.args.disk.now) (g.D.Disk.sizes c.write_synced.new.disk) (g.D.Disk.images c.args.disk.now) (g.D.Disk.images c.write_synced.new.disk) c.args.offset (0 ∷ []) c.requires.made c.requires.made
+    (λ file stands. subst (λ (n : ℕ). Stands (emptied c.args.slots.now) (put file n (0 ∷ []))) (sym c.requires.offset) (closing_done c.args.slots.now file stands c.requires.made c.requires.is_open))
     c.requires.ready told size durable)
     c.write_synced.ensures.written c.write_synced.ensures.size c.write_synced.ensures.durable
 
 pub returns-clause-any_moment : goal.returns-clause-any_moment
 returns-clause-any_moment g c =
-    each_moment g.D.Disk.moment g.D.Disk.images_since c.args.slots.now (g.D.Disk.images c.args.disk.now) (g.D.Disk.seen c.args.disk.now 0) c.args.place 1 c.args.disk.now c.write_synced.new.disk (λ file image. found_in image ≡ found_in file)
-    (λ file torn stands is. closing_torn c.args.slots.now file stands c.requires.made torn c.requires.is_open (subst (λ (n : ℕ). IsTorn n 1 file torn) c.requires.place is))
+    each_moment g.D.Disk.moment g.D.Disk.images_since c.args.slots.now (g.D.Disk.images c.args.disk.now) (g.D.Disk.seen c.args.disk.now 0) c.args.offset 1 c.args.disk.now c.write_synced.new.disk (λ file image. found_in image ≡ found_in file)
+    (λ file torn stands is. closing_torn c.args.slots.now file stands c.requires.made torn c.requires.is_open (subst (λ (n : ℕ). IsTorn n 1 file torn) c.requires.offset is))
     c.requires.ready.told c.write_synced.ensures.any_moment
 
 pub returns-clause-kept : goal.returns-clause-kept
 returns-clause-kept g c = on_ok_weaker c.write_synced.result
-    (λ told. told_after c.args.slots.now (g.D.Disk.seen c.args.disk.now 0) (g.D.Disk.seen c.write_synced.new.disk 0) (g.D.Disk.images c.args.disk.now) c.args.place (0 ∷ []) (λ old new. found_in new ≡ found_in old)
-    (λ file stands. subst (λ (n : ℕ). found_in (put file n (0 ∷ [])) ≡ found_in file) (sym c.requires.place) (closing_found c.args.slots.now file stands c.requires.made c.requires.is_open))
+    (λ told. told_after c.args.slots.now (g.D.Disk.seen c.args.disk.now 0) (g.D.Disk.seen c.write_synced.new.disk 0) (g.D.Disk.images c.args.disk.now) c.args.offset (0 ∷ []) (λ old new. found_in new ≡ found_in old)
+    (λ file stands. subst (λ (n : ℕ). found_in (put file n (0 ∷ [])) ≡ found_in file) (sym c.requires.offset) (closing_found c.args.slots.now file stands c.requires.made c.requires.is_open))
     told c.requires.ready.told)
     c.write_synced.ensures.written
 
 pub returns-clause-images_elsewhere : goal.returns-clause-images_elsewhere
-returns-clause-images_elsewhere g c = elsewhere_moment g.D.Disk.moment g.D.Disk.images_since c.args.slots.now (g.D.Disk.images c.args.disk.now) c.args.place 1 c.args.disk.now c.write_synced.new.disk c.write_synced.ensures.any_moment
+returns-clause-images_elsewhere g c = elsewhere_moment g.D.Disk.moment g.D.Disk.images_since c.args.slots.now (g.D.Disk.images c.args.disk.now) c.args.offset 1 c.args.disk.now c.write_synced.new.disk c.write_synced.ensures.any_moment
