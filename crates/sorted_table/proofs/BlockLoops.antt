@@ -1,11 +1,9 @@
 -- The loops over the rows of a block: what is left to read gives what all of it gives.
-use Rattle.std.proofs.Common.{◌≡◌, ◌∙◌, sym, ap, subst, refl, ℕ, zero, suc, ◌+◌, ◌-◌, ◌<◌, ◌≤◌, Bool, true, false, cond, List, [], ◌∷◌, ◌++◌, append_assoc, length, Option, None, Some, arith, add-one}
+use Rattle.std.proofs.Common.{◌≡◌, ◌∙◌, sym, ap, refl, ℕ, suc, ◌+◌, ◌-◌, ◌<◌, ◌≤◌, Bool, true, false, cond, List, [], ◌∷◌, ◌++◌, append_assoc, Option, None, Some, arith}
 use Rattle.std.proofs.lemmas.List.{append-nil}
-use Rattle.std.specs.Ordering.{is_lt}
 use Rattle.mds_base.specs.declared.row_key.RowKey.{RowKey}
-use Rattle.mds_base.specs.RowKeys.{row_key_cmp}
 use Rattle.sorted_table.specs.declared.table_row.TableRow.{TableRow}
-use Rattle.sorted_table.specs.Reading.{◌>>=◌, row_at, rows_at, from_at}
+use Rattle.sorted_table.specs.Reading.{◌>>=◌, row_at, rows_at, behind_at}
 use Rattle.sorted_table.specs.TableRows.{row_spelling}
 use Rattle.sorted_table.proofs.Readers.{IsBytes, bytes_behind}
 use Rattle.sorted_table.proofs.Rows.{row_reads}
@@ -48,27 +46,27 @@ read_all count bytes place rows rest has end =
     let none : count - place ≡ 0 = omega arith in
     sym has.gives ∙ ap (λ n. joined rows (rows_at n rest)) none ∙ ap (λ (all : List TableRow). Some (all, rest)) (append-nil rows)
 
--- no row so far is one that is not below the key, and these bytes are left
-pub record Seeks (count : ℕ) (key : RowKey) (bytes : List ℕ) (place : ℕ) (rest : List ℕ) : Type 0 where
-  pub gives : from_at (count - place) key rest ≡ from_at count key bytes
+-- all rows so far pass the test, and these bytes are left
+pub record Seeks (count : ℕ) (before : RowKey → Bool) (bytes : List ℕ) (place : ℕ) (rest : List ℕ) : Type 0 where
+  pub gives : behind_at (count - place) before rest ≡ behind_at count before bytes
   pub fits : IsBytes rest
 
-pub seek_none : (count : ℕ) (key : RowKey) (bytes : List ℕ) → IsBytes bytes → Seeks count key bytes 0 bytes
-seek_none count key bytes fits = record { fits = fits; gives = ap (λ n. from_at n key bytes) (omega arith) }
+pub seek_none : (count : ℕ) (before : RowKey → Bool) (bytes : List ℕ) → IsBytes bytes → Seeks count before bytes 0 bytes
+seek_none count before bytes fits = record { fits = fits; gives = ap (λ n. behind_at n before bytes) (omega arith) }
 
-pub seek_fails : (count : ℕ) (key : RowKey) (bytes : List ℕ) (place : ℕ) (rest : List ℕ) → Seeks count key bytes place rest → place < count → row_at rest ≡ None → from_at count key bytes ≡ None
-seek_fails count key bytes place rest has lt none =
-    let step : from_at (count - place) key rest ≡ None = rw (left count place lt, none) refl in
+pub seek_fails : (count : ℕ) (before : RowKey → Bool) (bytes : List ℕ) (place : ℕ) (rest : List ℕ) → Seeks count before bytes place rest → place < count → row_at rest ≡ None → behind_at count before bytes ≡ None
+seek_fails count before bytes place rest has lt none =
+    let step : behind_at (count - place) before rest ≡ None = rw (left count place lt, none) refl in
     sym has.gives ∙ step
 
-seek_step : (count : ℕ) (key : RowKey) (place : ℕ) (rest : List ℕ) (row : TableRow) (after : List ℕ) (b : Bool) → place < count → row_at rest ≡ Some (row, after) → is_lt (row_key_cmp row.key key) ≡ b → from_at (count - place) key rest ≡ cond b (from_at (count - (place + 1)) key after) (Some (Some row))
-seek_step count key place rest row after b lt read is = rw (left count place lt, read, is) refl
+seek_step : (count : ℕ) (before : RowKey → Bool) (place : ℕ) (rest : List ℕ) (row : TableRow) (after : List ℕ) (b : Bool) → place < count → row_at rest ≡ Some (row, after) → before row.key ≡ b → behind_at (count - place) before rest ≡ cond b (behind_at (count - (place + 1)) before after) (Some (Some row))
+seek_step count before place rest row after b lt read is = rw (left count place lt, read, is) refl
 
-pub seek_more : (count : ℕ) (key : RowKey) (bytes : List ℕ) (place : ℕ) (rest : List ℕ) (row : TableRow) (after : List ℕ) → Seeks count key bytes place rest → place < count → row_at rest ≡ Some (row, after) → is_lt (row_key_cmp row.key key) ≡ true → Seeks count key bytes (place + 1) after
-seek_more count key bytes place rest row after has lt read is = record { fits = bytes_behind rest (row_spelling row) after (row_reads.found rest row after has.fits read).1 has.fits; gives = sym (seek_step count key place rest row after true lt read is) ∙ has.gives }
+pub seek_more : (count : ℕ) (before : RowKey → Bool) (bytes : List ℕ) (place : ℕ) (rest : List ℕ) (row : TableRow) (after : List ℕ) → Seeks count before bytes place rest → place < count → row_at rest ≡ Some (row, after) → before row.key ≡ true → Seeks count before bytes (place + 1) after
+seek_more count before bytes place rest row after has lt read is = record { fits = bytes_behind rest (row_spelling row) after (row_reads.found rest row after has.fits read).1 has.fits; gives = sym (seek_step count before place rest row after true lt read is) ∙ has.gives }
 
-pub seek_ends : (count : ℕ) (key : RowKey) (bytes : List ℕ) (place : ℕ) (rest : List ℕ) (row : TableRow) (after : List ℕ) → Seeks count key bytes place rest → place < count → row_at rest ≡ Some (row, after) → is_lt (row_key_cmp row.key key) ≡ false → from_at count key bytes ≡ Some (Some row)
-seek_ends count key bytes place rest row after has lt read is = sym has.gives ∙ seek_step count key place rest row after false lt read is
+pub seek_ends : (count : ℕ) (before : RowKey → Bool) (bytes : List ℕ) (place : ℕ) (rest : List ℕ) (row : TableRow) (after : List ℕ) → Seeks count before bytes place rest → place < count → row_at rest ≡ Some (row, after) → before row.key ≡ false → behind_at count before bytes ≡ Some (Some row)
+seek_ends count before bytes place rest row after has lt read is = sym has.gives ∙ seek_step count before place rest row after false lt read is
 
-pub seek_all : (count : ℕ) (key : RowKey) (bytes : List ℕ) (place : ℕ) (rest : List ℕ) → Seeks count key bytes place rest → count ≤ place → from_at count key bytes ≡ Some None
-seek_all count key bytes place rest has end = let none : count - place ≡ 0 = omega arith in sym has.gives ∙ ap (λ n. from_at n key rest) none
+pub seek_all : (count : ℕ) (before : RowKey → Bool) (bytes : List ℕ) (place : ℕ) (rest : List ℕ) → Seeks count before bytes place rest → count ≤ place → behind_at count before bytes ≡ Some None
+seek_all count before bytes place rest has end = let none : count - place ≡ 0 = omega arith in sym has.gives ∙ ap (λ n. behind_at n before rest) none

@@ -1,17 +1,16 @@
 -- Blocks are read exactly.
-use Rattle.std.proofs.Common.{◌≡◌, ◌∙◌, sym, ap, subst, refl, ℕ, zero, suc, ◌+◌, ◌-◌, ◌<◌, ◌≤◌, ◌^◌, ◌*◌, Bool, true, false, cond, ◌&&◌, nat_eq, List, [], ◌∷◌, ◌++◌, append_assoc, length, take, drop, replicate, Option, None, Some, arith, length-append}
+use Rattle.std.proofs.Common.{◌≡◌, ◌∙◌, sym, ap, subst, refl, ℕ, zero, suc, ◌+◌, ◌-◌, ◌<◌, ◌≤◌, ◌^◌, Bool, true, false, cond, ◌&&◌, nat_eq, List, [], ◌∷◌, ◌++◌, append_assoc, length, replicate, None, Some, arith, length-append}
 use Rattle.std.specs.Int.{w16, to_be_bytes}
-use Rattle.std.specs.List.{AllByRecursion, list_all}
+use Rattle.std.specs.List.{AllByRecursion}
 use Rattle.std.proofs.lemmas.Bool.Decides.{nat_tests}
-use Rattle.std.proofs.lemmas.List.{append-nil, length-replicate}
-use Rattle.std.proofs.lemmas.Option.{same_Some}
+use Rattle.std.proofs.lemmas.List.{length-replicate}
 use Rattle.mds_base.specs.declared.row_key.RowKey.{RowKey}
 use Rattle.sorted_table.specs.declared.table_row.TableRow.{TableRow}
-use Rattle.sorted_table.specs.TableRows.{IsRow, key_spelling, marked_spelling, row_spelling, rows_spelling, row_from}
-use Rattle.sorted_table.specs.Reading.{◌>>=◌, u16_at, row_at, rows_at, from_at, are_zeros, before_zeros, block_at}
+use Rattle.sorted_table.specs.TableRows.{IsRow, key_spelling, marked_spelling, row_spelling, rows_spelling, row_behind}
+use Rattle.sorted_table.specs.Reading.{u16_at, rows_at, behind_at, are_zeros, before_zeros, block_at}
 use Rattle.sorted_table.specs.Blocks.{block_size, block_spelling}
-use Rattle.sorted_table.proofs.Readers.{IsBytes, Reads, from_both, then_some, passed, bytes_behind, u16_reads}
-use Rattle.sorted_table.proofs.Rows.{RowsRead, rows_again, rows_found, from_rows}
+use Rattle.sorted_table.proofs.Readers.{IsBytes, from_both, then_some, passed, bytes_behind, u16_reads}
+use Rattle.sorted_table.proofs.Rows.{rows_again, rows_found, behind_rows}
 
 -- ---- lengths
 
@@ -76,12 +75,12 @@ block_found block rows fits e =
     } in
     subst (BlockRead block) z.1 made
 
-pub from_block : (block : List ℕ) (key : RowKey) (rows : List TableRow) (count : ℕ) (rest : List ℕ) → u16_at block ≡ Some (count, rest) → block_at block ≡ Some rows → from_at count key rest ≡ Some (row_from rows key)
-from_block block key rows count rest read is =
+pub behind_block : (block : List ℕ) (before : RowKey → Bool) (rows : List TableRow) (count : ℕ) (rest : List ℕ) → u16_at block ≡ Some (count, rest) → block_at block ≡ Some rows → behind_at count before rest ≡ Some (row_behind before rows)
+behind_block block before rows count rest read is =
     let e : before_zeros (rows_at count rest) ≡ Some rows = sym (then_some (u16_at block) (count, rest) (λ x. before_zeros (rows_at x.0 x.1)) read) ∙ is in
     let a = from_both (rows_at count rest) _ rows e in
     let z = passed (are_zeros a.0.1) a.0.0 rows a.2 in
-    from_rows count key rest a.0.0 a.0.1 a.1 ∙ ap (λ r. Some (row_from r key)) z.1
+    behind_rows count before rest a.0.0 a.0.1 a.1 ∙ ap (λ r. Some (row_behind before r)) z.1
 
 pub block_length : (rows : List TableRow) → block_size rows ≤ 4096 → length (block_spelling rows) ≡ 4096
 block_length rows fits =

@@ -10,4 +10,5 @@ pub mod Elsewhere
 pub mod Builds
 pub mod Looking
 pub mod BlockThere
+pub mod Seeking
 pub mod Unique

@@ -1,6 +1,6 @@
 -- A table answers by one block what all its rows answer.
-use Rattle.std.specs.Prelude.{IfOk, IsErrOf, MatchOption}
-use Rattle.std.proofs.Common.{◌≡◌, ◌∙◌, sym, ap, subst, refl, ℕ, zero, suc, ◌+◌, ◌-◌, ◌<◌, ◌≤◌, ◌^◌, ◌*◌, Bool, true, false, cond, List, [], ◌∷◌, ◌++◌, append_assoc, length, get_or, take, drop, Option, None, Some, Result, Ok, Err, arith, length-append, length-drop, inl, inr}
+use Rattle.std.specs.Prelude.{IfOk, IsErrOf}
+use Rattle.std.proofs.Common.{◌≡◌, ◌∙◌, sym, ap, subst, refl, ℕ, zero, suc, ◌+◌, ◌<◌, ◌≤◌, ◌*◌, true, false, cond, List, [], ◌∷◌, ◌++◌, append_assoc, length, get_or, take, drop, Option, None, Some, Result, Ok, Err, arith}
 use Rattle.std.specs.declared.cmp.Ordering.{Ordering}
 use Rattle.std.specs.declared.cmp.Ordering.TheVariants.{Less, Equal, Greater}
 use Rattle.std.specs.List.{AllByRecursion, slice_get}
@@ -8,8 +8,7 @@ use Rattle.std.specs.List.{refill}
 use Rattle.mds_out.proofs.Rooms.{lent_whole}
 use Rattle.std.specs.List.Sorted.{IsPartitionedBy, IsPartitionPoint}
 use Rattle.std.specs.Ordering.{is_lt, is_eq, is_le}
-use Rattle.std.proofs.Math.Seq.{take-add}
-use Rattle.std.proofs.lemmas.List.{append-nil, take_at, drop_at, drop-drop}
+use Rattle.std.proofs.lemmas.List.{take_at, drop_at, drop-drop}
 use Rattle.mds_base.specs.declared.row_key.RowKey.{RowKey}
 use Rattle.mds_base.specs.RowKeys.{row_key_cmp}
 use Rattle.mds_base.proofs.RowMaps.{row_keys_total}
@@ -19,15 +18,15 @@ use Rattle.sorted_table.specs.declared.table_row.Held.{Held}
 use Rattle.sorted_table.specs.declared.table_row.Held.TheVariants.{Absent}
 use Rattle.sorted_table.specs.declared.fault.TableFault.{TableFault}
 use Rattle.sorted_table.specs.declared.fault.TableFault.TheVariants.{Device, Damaged, OutOfMemory}
-use Rattle.sorted_table.specs.TableRows.{IsRow, Rises, held_of, held_in, row_from, key_of}
+use Rattle.sorted_table.specs.TableRows.{IsRow, Rises, held_of, held_in, row_from}
 use Rattle.sorted_table.specs.Reading.{block_at}
 use Rattle.sorted_table.specs.Blocks.{block_size, block_spelling, blocks_spelling, rows_in, IsFilled, first_keys}
-use Rattle.sorted_table.specs.Answers.{IsLookAnswer, IsCopyAnswer}
-use Rattle.sorted_table.specs.Looks.{held_first, IsThis, IsPlain}
-use Rattle.sorted_table.specs.TableFiles.{table_front, table_spelling, counts_spelling}
-use Rattle.sorted_table.specs.Tables.{TableState, HasRows, IsSomeTable, HoldsRows}
+use Rattle.sorted_table.specs.Answers.{IsLookAnswer, IsHeldAnswer}
+use Rattle.sorted_table.specs.Looks.{bytes_at, held_first}
+use Rattle.sorted_table.specs.TableFiles.{table_front, counts_spelling}
+use Rattle.sorted_table.specs.Tables.{TableState, HasRows, IsSomeTable}
 use Rattle.sorted_table.proofs.BlocksRead.{block_length}
-use Rattle.sorted_table.proofs.Rising.{AllAbove, above_above, all_left, all_right, rises_left, rises_right}
+use Rattle.sorted_table.proofs.Rising.{AllAbove, above_above, all_right, rises_left, rises_right}
 use Rattle.sorted_table.proofs.Filling.{AreSound, are_sound, block_read}
 use Rattle.md5.specs.Md5.{md5}
 
@@ -57,7 +56,7 @@ is_greater Equal e = absurd cc
 is_greater Greater e = refl
 
 -- a key below one that is not above another is below that
-below_upto : (a b c : RowKey) → row_key_cmp a b ≡ Less → is_le (row_key_cmp b c) ≡ true → row_key_cmp a c ≡ Less
+pub below_upto : (a b c : RowKey) → row_key_cmp a b ≡ Less → is_le (row_key_cmp b c) ≡ true → row_key_cmp a c ≡ Less
 below_upto a b c less upto = go (row_key_cmp b c) refl upto
   where
     go : (r : Ordering) → row_key_cmp b c ≡ r → is_le r ≡ true → row_key_cmp a c ≡ Less
@@ -81,10 +80,6 @@ pub held_under : (rows more : List TableRow) (key : RowKey) → AllUnder rows ke
 held_under [] more key under = refl
 held_under (row ∷ rows) more key under = ap (λ r. cond (is_eq r) (held_of row.attr) (held_in (rows ++ more) key)) under.0 ∙ held_under rows more key under.1
 
-from_under : (rows more : List TableRow) (key : RowKey) → AllUnder rows key → row_from (rows ++ more) key ≡ row_from more key
-from_under [] more key under = refl
-from_under (row ∷ rows) more key under = ap (λ r. cond (is_lt r) (row_from (rows ++ more) key) (Some row)) under.0 ∙ from_under rows more key under.1
-
 pub held_over : (rows : List TableRow) (key : RowKey) → AllAbove key rows → held_in rows key ≡ Absent
 held_over [] key above = refl
 held_over (row ∷ rows) key above = ap (λ r. cond (is_eq r) (held_of row.attr) (held_in rows key)) (turned key row.key above.0) ∙ held_over rows key above.1
@@ -92,27 +87,6 @@ held_over (row ∷ rows) key above = ap (λ r. cond (is_eq r) (held_of row.attr)
 held_before : (rows more : List TableRow) (key : RowKey) → AllAbove key more → held_in (rows ++ more) key ≡ held_in rows key
 held_before [] more key above = held_over more key above
 held_before (row ∷ rows) more key above = ap (λ h. cond (is_eq (row_key_cmp row.key key)) (held_of row.attr) h) (held_before rows more key above)
-
-or_else : Option TableRow → Option TableRow → Option TableRow
-or_else None other = other
-or_else (Some row) other = Some row
-
-from_joined : (rows more : List TableRow) (key : RowKey) → row_from (rows ++ more) key ≡ or_else (row_from rows key) (row_from more key)
-unfolding or_else
-from_joined [] more key = refl
-from_joined (row ∷ rows) more key = ap (λ r. cond (is_lt (row_key_cmp row.key key)) r (Some row)) (from_joined rows more key) ∙ pull (is_lt (row_key_cmp row.key key)) (row_from rows key) (row_from more key)
-  where
-    pull : (b : Bool) (x y : Option TableRow) → cond b (or_else x y) (Some row) ≡ or_else (cond b x (Some row)) y
-    pull true x y = refl
-    pull false x y = refl
-
-some_else : (row : TableRow) (other : Option TableRow) → key_of (or_else (Some row) other) ≡ Some row.key
-unfolding or_else
-some_else row other = refl
-
-none_else : (other : Option TableRow) → key_of (or_else None other) ≡ key_of other
-unfolding or_else
-none_else other = refl
 
 held_step : (row : TableRow) (rows : List TableRow) (key : RowKey) (r : Ordering) → row_key_cmp row.key key ≡ r → Rises (row ∷ rows) → held_first (row_from rows key) key ≡ held_in rows key → held_first (row_from (row ∷ rows) key) key ≡ held_in (row ∷ rows) key
 held_step row rows key r is rise rest = go r is
@@ -160,7 +134,7 @@ rows_over before ([] ∷ blocks) key filled rise over = absurd filled
 rows_over before ((row ∷ rows) ∷ blocks) key filled rise over = over_first key row (rows ++ rows_in blocks) (back row.key key (is_greater (row_key_cmp row.key key) over.0)) rise.0
 
 -- the rows of a block are below the first key of the next one
-below_next : (row : TableRow) (rows : List TableRow) (next : TableRow) (more : List TableRow) → Rises ((row ∷ rows) ++ next ∷ more) → AllByRecursion (λ r. row_key_cmp r.key next.key ≡ Less) (row ∷ rows)
+pub below_next : (row : TableRow) (rows : List TableRow) (next : TableRow) (more : List TableRow) → Rises ((row ∷ rows) ++ next ∷ more) → AllByRecursion (λ r. row_key_cmp r.key next.key ≡ Less) (row ∷ rows)
 below_next row rows next more rise = (at_end rows rise.0, later rows rise.1)
   where
     at_end : (xs : List TableRow) → AllAbove row.key (xs ++ next ∷ more) → row_key_cmp row.key next.key ≡ Less
@@ -177,36 +151,15 @@ below_next row rows next more rise = (at_end rows rise.0, later rows rise.1)
 
 -- ---- the block of a key
 
--- the first row of blocks
-first_row : List (List TableRow) → Option TableRow
-first_row [] = None
-first_row ([] ∷ blocks) = first_row blocks
-first_row ((row ∷ rows) ∷ blocks) = Some row
-
-first_key_is : (before : ℕ) (blocks : List (List TableRow)) (place : ℕ) → IsFilled before blocks → key_of (first_row (drop place blocks)) ≡ slice_get (first_keys blocks) place
-unfolding first_row
-first_key_is before [] zero filled = refl
-first_key_is before [] (suc place) filled = refl
-first_key_is before ([] ∷ blocks) place filled = absurd filled
-first_key_is before ((row ∷ rows) ∷ blocks) zero filled = refl
-first_key_is before ((row ∷ rows) ∷ blocks) (suc place) filled = first_key_is (block_size (row ∷ rows)) blocks place filled.2
-
-from_over : (before : ℕ) (blocks : List (List TableRow)) (key : RowKey) → IsFilled before blocks → KeysOver (first_keys blocks) key → row_from (rows_in blocks) key ≡ first_row blocks
-unfolding KeysOver first_row
-from_over before [] key filled over = refl
-from_over before ([] ∷ blocks) key filled over = absurd filled
-from_over before ((row ∷ rows) ∷ blocks) key filled over = let greater = is_greater (row_key_cmp row.key key) over.0 in rw greater refl
-
 -- the block of this number answers for all
 record Located (blocks : List (List TableRow)) (key : RowKey) (place : ℕ) : Type 0 where
   pub block : List TableRow
   pub at : slice_get blocks place ≡ Some block
   pub rise : Rises block
   pub held : held_in (rows_in blocks) key ≡ held_in block key
-  pub from : row_from (rows_in blocks) key ≡ or_else (row_from block key) (first_row (drop (suc place) blocks))
 
 located : (before : ℕ) (blocks : List (List TableRow)) (key : RowKey) (place : ℕ) → IsFilled before blocks → Rises (rows_in blocks) → KeysUnder (take (suc place) (first_keys blocks)) key → KeysOver (drop (suc place) (first_keys blocks)) key → place < length (first_keys blocks) → Located blocks key place
-unfolding KeysUnder KeysOver first_row
+unfolding KeysUnder KeysOver
 located before [] key place filled rise under over within = absurd (omega arith)
 located before ([] ∷ blocks) key place filled rise under over within = absurd filled
 located before ((row ∷ rows) ∷ blocks) key zero filled rise under over within =
@@ -216,7 +169,6 @@ located before ((row ∷ rows) ∷ blocks) key zero filled rise under over withi
       at = refl;
       rise = rises_left (row ∷ rows) (rows_in blocks) rise;
       held = held_before (row ∷ rows) (rows_in blocks) key above;
-      from = from_joined (row ∷ rows) (rows_in blocks) key ∙ ap (or_else (row_from (row ∷ rows) key)) (from_over (block_size (row ∷ rows)) blocks key filled.2 over);
     }
 located before ((row ∷ rows) ∷ []) key (suc place) filled rise under over within = absurd (omega arith)
 located before ((row ∷ rows) ∷ [] ∷ blocks) key (suc place) filled rise under over within = absurd filled.2
@@ -229,7 +181,6 @@ located before ((row ∷ rows) ∷ (next ∷ nexts) ∷ blocks) key (suc place) 
       at = l.at;
       rise = l.rise;
       held = held_under (row ∷ rows) more key below ∙ l.held;
-      from = from_under (row ∷ rows) more key below ∙ l.from;
     }
 
 -- ---- the bytes of a block
@@ -258,28 +209,25 @@ sound_at (x ∷ blocks) (suc k) b sound at = sound_at blocks k b sound.1 at
 
 -- ---- places
 
-all_taken : (P : RowKey → Type 0) (keys : List RowKey) (n : ℕ) → ((k : ℕ) (d : RowKey) → k < n → k < length keys → P (get_or keys k d)) → AllByRecursion P (take n keys)
+pub all_taken : (P : RowKey → Type 0) (keys : List RowKey) (n : ℕ) → ((k : ℕ) (d : RowKey) → k < n → k < length keys → P (get_or keys k d)) → AllByRecursion P (take n keys)
 all_taken P [] zero all = tt
 all_taken P [] (suc n) all = tt
 all_taken P (key ∷ keys) zero all = tt
 all_taken P (key ∷ keys) (suc n) all = (all 0 key (omega arith) (omega arith), all_taken P keys n (λ k d lt within. all (suc k) d (omega arith) (omega arith)))
 
-all_dropped : (P : RowKey → Type 0) (keys : List RowKey) (n : ℕ) → ((k : ℕ) (d : RowKey) → n ≤ k → k < length keys → P (get_or keys k d)) → AllByRecursion P (drop n keys)
+pub all_dropped : (P : RowKey → Type 0) (keys : List RowKey) (n : ℕ) → ((k : ℕ) (d : RowKey) → n ≤ k → k < length keys → P (get_or keys k d)) → AllByRecursion P (drop n keys)
 all_dropped P [] zero all = tt
 all_dropped P [] (suc n) all = tt
 all_dropped P (key ∷ keys) zero all = (all 0 key (omega arith) (omega arith), all_dropped P keys 0 (λ k d le within. all (suc k) d (omega arith) (omega arith)))
 all_dropped P (key ∷ keys) (suc n) all = all_dropped P keys n (λ k d le within. all (suc k) d (omega arith) (omega arith))
 
-upto_test : RowKey → RowKey → Bool
-upto_test key first = is_le (row_key_cmp first key)
-
 -- first keys rise, so those that are not above a key come first
-keys_above : (before : ℕ) (key : RowKey) (blocks : List (List TableRow)) → IsFilled before blocks → AllAbove key (rows_in blocks) → AllByRecursion (λ later. row_key_cmp key later ≡ Less) (first_keys blocks)
+pub keys_above : (before : ℕ) (key : RowKey) (blocks : List (List TableRow)) → IsFilled before blocks → AllAbove key (rows_in blocks) → AllByRecursion (λ later. row_key_cmp key later ≡ Less) (first_keys blocks)
 keys_above before key [] filled above = tt
 keys_above before key ([] ∷ blocks) filled above = absurd filled
 keys_above before key ((row ∷ rows) ∷ blocks) filled above = (above.0, keys_above (block_size (row ∷ rows)) key blocks filled.2 (all_right (λ later. row_key_cmp key later.key ≡ Less) rows (rows_in blocks) above.1))
 
-at_place : (P : RowKey → Type 0) (keys : List RowKey) (k : ℕ) (d : RowKey) → k < length keys → AllByRecursion P keys → P (get_or keys k d)
+pub at_place : (P : RowKey → Type 0) (keys : List RowKey) (k : ℕ) (d : RowKey) → k < length keys → AllByRecursion P keys → P (get_or keys k d)
 at_place P [] k d within all = absurd (omega arith)
 at_place P (key ∷ keys) zero d within all = all.0
 at_place P (key ∷ keys) (suc k) d within all = at_place P keys k d (omega arith) all.1
@@ -334,26 +282,13 @@ module _ (table : TableState) (key : RowKey) where
       let over = over_keys rows bytes 0 has (point rows bytes 0 has parts) in
       ap (λ l. held_in l key) has.rows_are ∙ held_over (rows_in has.blocks) key (rows_over 4096 has.blocks key has.has.are.filled has.has.are.rise (all_keys has.blocks over))
 
-  -- the first key, where none is below
-  none_from : (rows : List TableRow) (bytes : List ℕ) → HasRows table rows bytes → Parts key table.firsts 0 → key_of (row_from rows key) ≡ slice_get table.firsts 0
-  none_from rows bytes has parts =
-      let over = over_keys rows bytes 0 has (point rows bytes 0 has parts) in
-      ap (λ l. key_of (row_from l key)) has.rows_are ∙ ap key_of (from_over 4096 has.blocks key has.has.are.filled (all_keys has.blocks over))
-      ∙ ap (λ (b : List (List TableRow)). key_of (first_row b)) (sym (none_dropped has.blocks)) ∙ first_key_is 4096 has.blocks 0 has.has.are.filled ∙ ap (λ l. slice_get l 0) (sym has.has.firsts)
-    where
-      none_dropped : (l : List (List TableRow)) → drop 0 l ≡ l
-      none_dropped [] = refl
-      none_dropped (x ∷ l) = refl
-
   -- the block of the key, as it stands in the file
-  pub record Found (rows : List TableRow) (block : List ℕ) (upto : ℕ) : Type 0 where
+  pub record Found (rows : List TableRow) (block : List ℕ) : Type 0 where
     pub there : List TableRow
     pub read : block_at block ≡ Some there
     pub held : held_first (row_from there key) key ≡ held_in rows key
-    pub some : (row : TableRow) → row_from there key ≡ Some row → key_of (row_from rows key) ≡ Some row.key
-    pub none : row_from there key ≡ None → key_of (row_from rows key) ≡ slice_get table.firsts upto
 
-  found : (rows : List TableRow) (bytes block : List ℕ) (place : ℕ) → HasRows table rows bytes → Parts key table.firsts (suc place) → suc place ≤ length table.firsts → block ≡ take 4096 (drop (4096 * place) bytes) → Found rows block (suc place)
+  found : (rows : List TableRow) (bytes block : List ℕ) (place : ℕ) → HasRows table rows bytes → Parts key table.firsts (suc place) → suc place ≤ length table.firsts → block ≡ take 4096 (drop (4096 * place) bytes) → Found rows block
   found rows bytes block place has parts within read_is =
       let is = point rows bytes (suc place) has parts in
       let number : length table.firsts ≡ length (first_keys has.blocks) = ap length has.has.firsts in
@@ -367,9 +302,6 @@ module _ (table : TableState) (key : RowKey) where
         there = l.block;
         read = ap block_at spelled ∙ block_read l.block there.0 there.1;
         held = held_from l.block key l.rise ∙ sym l.held ∙ ap (λ r. held_in r key) (sym has.rows_are);
-        some = λ row is. ap (λ r. key_of (row_from r key)) has.rows_are ∙ ap key_of l.from ∙ ap (λ r. key_of (or_else r (first_row (drop (suc place) has.blocks)))) is ∙ some_else row (first_row (drop (suc place) has.blocks));
-        none = λ is. ap (λ r. key_of (row_from r key)) has.rows_are ∙ ap key_of l.from ∙ ap (λ r. key_of (or_else r (first_row (drop (suc place) has.blocks)))) is ∙ none_else (first_row (drop (suc place) has.blocks))
-            ∙ first_key_is 4096 has.blocks (suc place) has.has.are.filled ∙ ap (λ k. slice_get k (suc place)) (sym has.has.firsts);
       }
 
   -- ---- get
@@ -401,58 +333,17 @@ module _ (table : TableState) (key : RowKey) where
       let never = given f.there f.read in
       absurd cc
 
-  -- ---- seek
+  -- ---- the same of a block at hand
 
-  pub seek_first : (seen : Option (List ℕ)) (result : Result (Option RowKey) TableFault) → Parts key table.firsts 0 → IsThis (slice_get table.firsts 0) result → IfOk result (λ found. (rows : List TableRow) → OnTold seen (HasRows table rows) → OnTold seen (λ _. found ≡ key_of (row_from rows key)))
-  seek_first seen (Err e) parts this = tt
-  seek_first None (Ok it) parts this = λ all has. tt
-  seek_first (Some bytes) (Ok it) parts this = λ all has. this ∙ sym (none_from all bytes has parts)
+  pub held_at_hand : (block : List ℕ) (place : ℕ) (result : Result Held TableFault) → Parts key table.firsts (suc place) → suc place ≤ length table.firsts
+      → ((there : List TableRow) → block_at block ≡ Some there → result ≡ Ok (held_first (row_from there key) key)) → IfOk result (λ held. (rows : List TableRow) (bytes : List ℕ) → HasRows table rows bytes → block ≡ bytes_at place bytes → held ≡ held_in rows key)
+  held_at_hand block place (Err e) parts within given = tt
+  held_at_hand block place (Ok held) parts within given = λ rows bytes has is. get_held (Some bytes) block place (Ok held) parts within is given rows has
 
-  pub seek_some : (seen : Option (List ℕ)) (block : List ℕ) (place : ℕ) (found_key : RowKey) → Parts key table.firsts (suc place) → suc place ≤ length table.firsts → OnTold seen (λ bytes. block ≡ take 4096 (drop (4096 * place) bytes))
-      → ((there : List TableRow) → block_at block ≡ Some there → Some found_key ≡ key_of (row_from there key)) → (rows : List TableRow) → OnTold seen (HasRows table rows) → OnTold seen (λ _. Some found_key ≡ key_of (row_from rows key))
-  seek_some None block place found_key parts within read given rows has = tt
-  seek_some (Some bytes) block place found_key parts within read given rows has =
-      let f = found rows bytes block place has parts within read in
-      go f.there f.some (row_from f.there key) refl (given f.there f.read)
-    where
-      go : (there : List TableRow) → ((row : TableRow) → row_from there key ≡ Some row → key_of (row_from rows key) ≡ Some row.key) → (r : Option TableRow) → row_from there key ≡ r → Some found_key ≡ key_of (row_from there key) → Some found_key ≡ key_of (row_from rows key)
-      go there some None is e = let never : ◌≡◌ {A = Option RowKey} (Some found_key) None = e ∙ ap key_of is in absurd cc
-      go there some (Some row) is e = e ∙ ap key_of is ∙ sym (some row is)
-
-  pub seek_rest : (seen : Option (List ℕ)) (block : List ℕ) (place : ℕ) (result : Result (Option RowKey) TableFault) → Parts key table.firsts (suc place) → suc place ≤ length table.firsts → OnTold seen (λ bytes. block ≡ take 4096 (drop (4096 * place) bytes))
-      → ((there : List TableRow) → block_at block ≡ Some there → None ≡ key_of (row_from there key)) → IsThis (slice_get table.firsts (suc place)) result → IfOk result (λ found. (rows : List TableRow) → OnTold seen (HasRows table rows) → OnTold seen (λ _. found ≡ key_of (row_from rows key)))
-  seek_rest seen block place (Err e) parts within read given this = tt
-  seek_rest None block place (Ok next) parts within read given this = λ rows has. tt
-  seek_rest (Some bytes) block place (Ok next) parts within read given this = λ rows has.
-      let f = found rows bytes block place has parts within read in
-      none_left (row_from f.there key) next (key_of (row_from rows key)) (slice_get table.firsts (suc place)) (given f.there f.read) f.none this
-    where
-      none_left : (r : Option TableRow) (next whole first : Option RowKey) → None ≡ key_of r → (r ≡ None → whole ≡ first) → next ≡ first → next ≡ whole
-      none_left None next whole first e none this = this ∙ sym (none refl)
-      none_left (Some row) next whole first e none this = absurd cc
-
-  pub seek_damage : (seen : Option (List ℕ)) (block : List ℕ) (place : ℕ) (result : Result (Option RowKey) TableFault) → Parts key table.firsts (suc place) → suc place ≤ length table.firsts → OnTold seen (λ bytes. block ≡ take 4096 (drop (4096 * place) bytes))
-      → ((there : List TableRow) → block_at block ≡ Some there → IsThis (key_of (row_from there key)) result) → OnTold seen (IsSomeTable table) → IsCopyAnswer seen result
-  seek_damage seen block place (Ok it) parts within read given told = tt
-  seek_damage seen block place (Err Device) parts within read given told = tt
-  seek_damage seen block place (Err OutOfMemory) parts within read given told = tt
-  seek_damage None block place (Err (Damaged at damage)) parts within read given told = tt
-  seek_damage (Some bytes) block place (Err (Damaged at damage)) parts within read given told =
-      let f = found told.rows bytes block place told.has parts within read in
-      given f.there f.read
-
-  pub seek_found : (seen : Option (List ℕ)) (block : List ℕ) (place : ℕ) (there_key : Option RowKey) (result : Result (Option RowKey) TableFault) → Parts key table.firsts (suc place) → suc place ≤ length table.firsts → OnTold seen (λ bytes. block ≡ take 4096 (drop (4096 * place) bytes))
-      → ((there : List TableRow) → block_at block ≡ Some there → there_key ≡ key_of (row_from there key)) → MatchOption there_key (IsThis (slice_get table.firsts (suc place)) result) (λ k. result ≡ Ok (Some k))
-      → IfOk result (λ found. (rows : List TableRow) → OnTold seen (HasRows table rows) → OnTold seen (λ _. found ≡ key_of (row_from rows key)))
-  seek_found seen block place None result parts within read given this = seek_rest seen block place result parts within read given this
-  seek_found seen block place (Some k) (Err e) parts within read given this = tt
-  seek_found seen block place (Some k) (Ok it) parts within read given this = λ rows has.
-      let same : it ≡ Some k = cc in
-      let P : Option RowKey → Type 0 = λ f. OnTold seen (λ _. f ≡ key_of (row_from rows key)) in
-      subst P (sym same) (seek_some seen block place k parts within read given rows has)
-
-pub copy_plain : (seen : Option (List ℕ)) (result : Result (Option RowKey) TableFault) → IsPlain result → IsCopyAnswer seen result
-copy_plain seen (Ok it) plain = tt
-copy_plain seen (Err Device) plain = tt
-copy_plain seen (Err (Damaged at damage)) plain = absurd plain
-copy_plain seen (Err OutOfMemory) plain = tt
+  pub answer_at_hand : (block : List ℕ) (place : ℕ) (result : Result Held TableFault) → Parts key table.firsts (suc place) → suc place ≤ length table.firsts
+      → ((there : List TableRow) → block_at block ≡ Some there → result ≡ Ok (held_first (row_from there key) key)) → (IsErrOf result Device → ⊥) → (IsErrOf result OutOfMemory → ⊥)
+      → IsHeldAnswer ((bytes : List ℕ) → IsSomeTable table bytes → block ≡ bytes_at place bytes → ⊥) result
+  answer_at_hand block place (Ok held) parts within given no_fault no_memory = tt
+  answer_at_hand block place (Err Device) parts within given no_fault no_memory = no_fault refl
+  answer_at_hand block place (Err OutOfMemory) parts within given no_fault no_memory = no_memory refl
+  answer_at_hand block place (Err (Damaged at damage)) parts within given no_fault no_memory = λ bytes some is. get_answer (Some bytes) block place (Err (Damaged at damage)) parts within is given some no_fault no_memory

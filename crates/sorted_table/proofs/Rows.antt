@@ -1,19 +1,16 @@
 -- Keys, attributes and rows are read exactly.
-use Rattle.std.proofs.Common.{◌≡◌, ◌∙◌, sym, ap, subst, refl, ℕ, zero, suc, ◌+◌, ◌<◌, ◌≤◌, ◌^◌, Bool, true, false, cond, nat_eq, nat_lt, nat_le, ◌&&◌, List, [], ◌∷◌, ◌++◌, append_assoc, length, Option, None, Some, arith}
-use Rattle.std.specs.Prelude.{IsTrue}
+use Rattle.std.proofs.Common.{◌≡◌, ◌∙◌, sym, ap, subst, refl, ℕ, zero, suc, ◌<◌, ◌≤◌, ◌^◌, Bool, true, false, cond, nat_eq, nat_lt, nat_le, ◌&&◌, List, [], ◌∷◌, ◌++◌, append_assoc, length, Option, None, Some, arith}
 use Rattle.std.specs.Int.{w16, w32, w64, to_be_bytes}
 use Rattle.std.specs.List.{AllByRecursion}
-use Rattle.std.specs.Ordering.{is_lt}
 use Rattle.std.proofs.lemmas.Bool.Decides.{nat_tests}
 use Rattle.std.proofs.lemmas.Option.{same_Some}
 use Rattle.mds_base.specs.declared.attr.Attr.{Attr}
 use Rattle.mds_base.specs.declared.row_key.RowKey.{RowKey}
 use Rattle.mds_base.specs.Entries.{is_stamped}
-use Rattle.mds_base.specs.RowKeys.{row_key_cmp}
 use Rattle.sorted_table.specs.declared.table_row.TableRow.{TableRow}
-use Rattle.sorted_table.specs.TableRows.{IsAttr, IsMarked, IsKey, IsRow, plain_spelling, stamp_spelling, marked_spelling, key_spelling, row_spelling, rows_spelling, row_from}
-use Rattle.sorted_table.specs.Reading.{◌>>=◌, u16_at, u32_at, u64_at, name_at, key_at, plain_at, stamped_at, marked_some, marked_at, row_at, rows_at, from_at}
-use Rattle.sorted_table.proofs.Readers.{IsBytes, Reads, from_both, then_some, passed, passed_not, bytes_behind, u16_reads, u32_reads, u64_reads, name_reads, name_spelling}
+use Rattle.sorted_table.specs.TableRows.{IsAttr, IsMarked, IsKey, IsRow, plain_spelling, stamp_spelling, marked_spelling, key_spelling, row_spelling, rows_spelling, row_behind}
+use Rattle.sorted_table.specs.Reading.{u16_at, u32_at, u64_at, name_at, key_at, plain_at, stamped_at, marked_some, marked_at, row_at, rows_at, behind_at}
+use Rattle.sorted_table.proofs.Readers.{IsBytes, Reads, from_both, then_some, passed, bytes_behind, u16_reads, u32_reads, u64_reads, name_reads, name_spelling}
 
 -- ---- keys
 
@@ -269,20 +266,20 @@ rows_found (suc count) bytes rows rest fits e =
     let Q : List TableRow × List ℕ → Type 0 = λ x. RowsRead (suc count) bytes x.0 x.1 in
     subst Q same (record { count_is = ap suc more.count_is; all = (row.0, more.all); parts = row.1 ∙ ap (λ l. row_spelling a.0.0 ++ l) more.parts ∙ sym (append_assoc (row_spelling a.0.0) (rows_spelling b.0.0) b.0.1) })
 
--- the first row that is not below a key, among those that are read
-pub from_rows : (count : ℕ) (key : RowKey) (bytes : List ℕ) (rows : List TableRow) (rest : List ℕ) → rows_at count bytes ≡ Some (rows, rest) → from_at count key bytes ≡ Some (row_from rows key)
-from_rows zero key bytes rows rest e =
+-- the first row whose key does not pass a test, among those that are read
+pub behind_rows : (count : ℕ) (before : RowKey → Bool) (bytes : List ℕ) (rows : List TableRow) (rest : List ℕ) → rows_at count bytes ≡ Some (rows, rest) → behind_at count before bytes ≡ Some (row_behind before rows)
+behind_rows zero before bytes rows rest e =
     let same : ◌≡◌ {A = List TableRow × List ℕ} ([], bytes) (rows, rest) = same_Some _ _ e in
-    ap (λ (x : List TableRow × List ℕ). Some (row_from x.0 key)) same
-from_rows (suc count) key bytes rows rest e =
+    ap (λ (x : List TableRow × List ℕ). Some (row_behind before x.0)) same
+behind_rows (suc count) before bytes rows rest e =
     let a = from_both (row_at bytes) _ _ e in
     let b = from_both (rows_at count a.0.1) _ _ a.2 in
     let same : ◌≡◌ {A = List TableRow × List ℕ} (a.0.0 ∷ b.0.0, b.0.1) (rows, rest) = same_Some _ _ b.2 in
-    let more = from_rows count key a.0.1 b.0.0 b.0.1 b.1 in
+    let more = behind_rows count before a.0.1 b.0.0 b.0.1 b.1 in
     then_some (row_at bytes) a.0 _ a.1
-    ∙ ap (λ o. cond (is_lt (row_key_cmp a.0.0.key key)) o (Some (Some a.0.0))) more
-    ∙ pull (is_lt (row_key_cmp a.0.0.key key)) (row_from b.0.0 key) (Some a.0.0)
-    ∙ ap (λ (x : List TableRow × List ℕ). Some (row_from x.0 key)) same
+    ∙ ap (λ o. cond (before a.0.0.key) o (Some (Some a.0.0))) more
+    ∙ pull (before a.0.0.key) (row_behind before b.0.0) (Some a.0.0)
+    ∙ ap (λ (x : List TableRow × List ℕ). Some (row_behind before x.0)) same
   where
     pull : (b : Bool) (x y : Option TableRow) → cond b (Some x) (Some y) ≡ Some (cond b x y)
     pull true x y = refl

@@ -24,26 +24,40 @@ pub record HasTableCause {T : Type 0} (before now : ℕ) (result : Result T Tabl
 abbrev pub IsOpenAnswer : {T : Type 0} → Option (List ℕ) → Result T TableFault → Type 0
 IsOpenAnswer seen (Ok _) = ⊤
 IsOpenAnswer seen (Err Device) = ⊤
-IsOpenAnswer seen (Err (Damaged place damage)) = OnTold seen (λ file. IsDamaged file place damage)
+IsOpenAnswer seen (Err (Damaged offset damage)) = OnTold seen (λ file. IsDamaged file offset damage)
 IsOpenAnswer seen (Err OutOfMemory) = ⊤
 
 -- a look into an open table: a disk that tells what it holds is never found to be damaged, and memory is not taken
 abbrev pub IsLookAnswer : {T : Type 0} → Option (List ℕ) → Result T TableFault → Type 0
 IsLookAnswer seen (Ok _) = ⊤
 IsLookAnswer seen (Err Device) = ⊤
-IsLookAnswer seen (Err (Damaged place damage)) = OnTold seen (λ file. ⊥)
+IsLookAnswer seen (Err (Damaged offset damage)) = OnTold seen (λ file. ⊥)
 IsLookAnswer seen (Err OutOfMemory) = ⊥
 
 -- the same of a look that gives what takes memory
 abbrev pub IsCopyAnswer : {T : Type 0} → Option (List ℕ) → Result T TableFault → Type 0
 IsCopyAnswer seen (Ok _) = ⊤
 IsCopyAnswer seen (Err Device) = ⊤
-IsCopyAnswer seen (Err (Damaged place damage)) = OnTold seen (λ file. ⊥)
+IsCopyAnswer seen (Err (Damaged offset damage)) = OnTold seen (λ file. ⊥)
 IsCopyAnswer seen (Err OutOfMemory) = ⊤
 
 -- a refusal is the disk's, or want of memory
 abbrev pub IsMemoryAnswer : {T : Type 0} → Result T TableFault → Type 0
 IsMemoryAnswer (Ok _) = ⊤
 IsMemoryAnswer (Err Device) = ⊤
-IsMemoryAnswer (Err (Damaged place damage)) = ⊥
+IsMemoryAnswer (Err (Damaged offset damage)) = ⊥
 IsMemoryAnswer (Err OutOfMemory) = ⊤
+
+-- a refusal is the device's
+abbrev pub IsDeviceAnswer : {T : Type 0} → Result T TableFault → Type 0
+IsDeviceAnswer (Ok _) = ⊤
+IsDeviceAnswer (Err Device) = ⊤
+IsDeviceAnswer (Err (Damaged offset damage)) = ⊥
+IsDeviceAnswer (Err OutOfMemory) = ⊥
+
+-- what is read of a block at hand: it is damaged only where this holds
+abbrev pub IsHeldAnswer : {T : Type 0} → Type 0 → Result T TableFault → Type 0
+IsHeldAnswer damaged (Ok _) = ⊤
+IsHeldAnswer damaged (Err Device) = ⊥
+IsHeldAnswer damaged (Err (Damaged offset damage)) = damaged
+IsHeldAnswer damaged (Err OutOfMemory) = ⊥

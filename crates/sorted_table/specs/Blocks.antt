@@ -1,5 +1,6 @@
 -- Rows in blocks: which block a row goes into, and how blocks are spelled.
-use Rattle.std.specs.Prelude.{◌≡◌, ℕ, ◌+◌, ◌-◌, ◌*◌, ◌<◌, ◌≤◌, List, [], ◌∷◌, ◌++◌, length, replicate, Option, None, Some, ⊤, Bool, true, false, ◌&&◌}
+use Rattle.std.specs.Prelude.{◌≡◌, ℕ, ◌+◌, ◌-◌, ◌*◌, ◌<◌, ◌≤◌, List, [], ◌∷◌, ◌++◌, length, replicate, Option, None}
+use Rattle.std.specs.Prelude.{Some, ⊤, Bool, true, false, ◌&&◌}
 use Rattle.std.specs.Int.{w16, to_be_bytes}
 use Rattle.std.specs.Ordering.{is_lt}
 use Rattle.mds_base.specs.declared.row_key.RowKey.{RowKey}
@@ -14,7 +15,8 @@ block_size rows = 2 + length (rows_spelling rows)
 
 -- the count of rows, the rows, and zeros to the block's end
 abbrev pub block_spelling : List TableRow → List ℕ
-block_spelling rows = (to_be_bytes w16 (length rows) ++ rows_spelling rows) ++ replicate (BLOCK_BYTES - block_size rows) 0
+block_spelling rows =
+    (to_be_bytes w16 (length rows) ++ rows_spelling rows) ++ replicate (BLOCK_BYTES - block_size rows) 0
 
 abbrev pub blocks_spelling : List (List TableRow) → List ℕ
 blocks_spelling [] = []
@@ -25,12 +27,13 @@ abbrev pub rows_in : List (List TableRow) → List TableRow
 rows_in [] = []
 rows_in (block ∷ blocks) = block ++ rows_in blocks
 
--- A row goes into the present block where it fits, else it begins the next one: these blocks follow one that has so many
--- bytes taken. None is empty, the rows of each fit, and the first row of each did not fit into the one before.
+-- A row goes into the present block where it fits, else it begins the next one: these blocks follow one that has so
+-- many bytes taken. None is empty, the rows of each fit, and the first row of each did not fit into the one before.
 abbrev pub IsFilled : ℕ → List (List TableRow) → Type 0
 IsFilled before [] = ⊤
 IsFilled before ([] ∷ blocks) = ⊥
-IsFilled before ((row ∷ rows) ∷ blocks) = (BLOCK_BYTES < before + length (row_spelling row)) × (block_size (row ∷ rows) ≤ BLOCK_BYTES) × IsFilled (block_size (row ∷ rows)) blocks
+IsFilled before ((row ∷ rows) ∷ blocks) = (BLOCK_BYTES < before + length (row_spelling row))
+    × (block_size (row ∷ rows) ≤ BLOCK_BYTES) × IsFilled (block_size (row ∷ rows)) blocks
 
 -- how many bytes the last block has taken, where these follow one that has so many
 abbrev pub last_size : ℕ → List (List TableRow) → ℕ

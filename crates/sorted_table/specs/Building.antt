@@ -23,7 +23,8 @@ closed full [] = full
 closed full (row ∷ rows) = full ++ (row ∷ rows) ∷ []
 
 -- The full blocks were written, and the present one has these rows: they are all rows so far.
-pub record Builds (b : Builder) (full : List (List TableRow)) (present rows : List TableRow) (seen : Option (List ℕ)) : Type 0 where
+pub record Builds (b : Builder) (full : List (List TableRow)) (present rows : List TableRow)
+    (seen : Option (List ℕ)) : Type 0 where
   pub rows_are : rows ≡ rows_in full ++ present
   pub filled : IsFilled BLOCK_BYTES (closed full present)
   pub rise : Rises rows

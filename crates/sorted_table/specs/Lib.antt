@@ -1,5 +1,6 @@
 pub mod TableRows
 pub mod Lines
+pub mod Starts
 pub mod Reading
 pub mod Blocks
 pub mod TableFiles

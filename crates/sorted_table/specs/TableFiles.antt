@@ -1,5 +1,6 @@
 -- The file of a table: its blocks, the counts of blocks and rows, and the MD5 of all this.
-use Rattle.std.specs.Prelude.{◌≡◌, ◌≢◌, ◌⊎◌, ℕ, ◌+◌, ◌-◌, ◌<◌, ◌≤◌, ◌^◌, List, [], ◌∷◌, ◌++◌, length, take, drop, Option, None}
+use Rattle.std.specs.Prelude.{◌≡◌, ◌≢◌, ◌⊎◌, ℕ, ◌+◌, ◌-◌, ◌<◌, ◌≤◌, ◌^◌, List, [], ◌∷◌, ◌++◌, length, take, drop}
+use Rattle.std.specs.Prelude.{Option, None}
 use Rattle.std.specs.Int.{w32, w64, to_be_bytes}
 use Rattle.std.specs.List.{AllByRecursion}
 use Rattle.md5.specs.Md5.{md5}
@@ -37,29 +38,32 @@ pub record HoldsTable (rows : List TableRow) (file : List ℕ) : Type 0 where
   pub bytes : file ≡ table_spelling blocks
 
 -- the file's last 16 bytes are not the MD5 of those before: what they are, and what they were to be
-pub record IsSumOther (file : List ℕ) (place : ℕ) (kept found : List ℕ) : Type 0 where
+pub record IsSumOther (file : List ℕ) (offset : ℕ) (kept found : List ℕ) : Type 0 where
   pub long : FIXED_BYTES ≤ length file
-  pub place_is : place + SUM_BYTES ≡ length file
-  pub kept_is : kept ≡ drop place file
-  pub found_is : found ≡ md5 (take place file)
+  pub place_is : offset + SUM_BYTES ≡ length file
+  pub kept_is : kept ≡ drop offset file
+  pub found_is : found ≡ md5 (take offset file)
   pub other : kept ≢ found
 
 -- the file ends with the MD5 of what is before, and yet is no table
-pub record IsNone (file : List ℕ) (place : ℕ) : Type 0 where
+pub record IsNone (file : List ℕ) (offset : ℕ) : Type 0 where
   pub long : FIXED_BYTES ≤ length file
-  pub place_is : place ≡ 0
+  pub place_is : offset ≡ 0
   pub sealed : drop (length file - SUM_BYTES) file ≡ md5 (take (length file - SUM_BYTES) file)
   pub none : (rows : List TableRow) → HoldsTable rows file → ⊥
 
--- What is wrong with the file, in this order: it is too short for its fixed parts, its sum is another, or it spells nothing.
+-- What is wrong with the file, in this order: it is too short for its fixed parts, its sum is another, or it spells
+-- nothing.
 abbrev pub IsDamaged : List ℕ → ℕ → TableDamage → Type 0
-IsDamaged file place Spelling = ((place ≡ 0) × (length file < FIXED_BYTES)) ⊎ IsNone file place
-IsDamaged file place (Sum kept found) = IsSumOther file place kept found
+IsDamaged file offset Spelling = ((offset ≡ 0) × (length file < FIXED_BYTES)) ⊎ IsNone file offset
+IsDamaged file offset (Sum kept found) = IsSumOther file offset kept found
 
 -- A file holds the rows of one table at most.
 abbrev pub HoldsOneTable : Type 0
-HoldsOneTable = (rows others : List TableRow) (file : List ℕ) → HoldsTable rows file → HoldsTable others file → rows ≡ others
+HoldsOneTable =
+    (rows others : List TableRow) (file : List ℕ) → HoldsTable rows file → HoldsTable others file → rows ≡ others
 
 -- A damaged file holds none.
 abbrev pub IsEitherTableOrDamaged : Type 0
-IsEitherTableOrDamaged = (rows : List TableRow) (file : List ℕ) (place : ℕ) (damage : TableDamage) → HoldsTable rows file → IsDamaged file place damage → ⊥
+IsEitherTableOrDamaged = (rows : List TableRow) (file : List ℕ) (offset : ℕ) (damage : TableDamage)
+    → HoldsTable rows file → IsDamaged file offset damage → ⊥

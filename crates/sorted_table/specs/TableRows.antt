@@ -1,5 +1,6 @@
 -- Rows of a table, in memory and as bytes.
-use Rattle.std.specs.Prelude.{◌≡◌, ℕ, ◌<◌, ◌≤◌, ◌^◌, List, [], ◌∷◌, ◌++◌, length, Option, None, Some, ⊤, Bool, true, false, IsTrue, if◌then◌else◌}
+use Rattle.std.specs.Prelude.{◌≡◌, ℕ, ◌<◌, ◌≤◌, ◌^◌, List, [], ◌∷◌, ◌++◌, length, Option, None, Some, ⊤, Bool, true}
+use Rattle.std.specs.Prelude.{false, IsTrue, if◌then◌else◌}
 use Rattle.std.specs.Int.{w16, w32, w64, to_be_bytes}
 use Rattle.std.specs.List.{AllByRecursion}
 use Rattle.std.specs.Ordering.{is_lt, is_eq}
@@ -15,7 +16,8 @@ use Rattle.sorted_table.specs.declared.table_row.Held.TheVariants.{Absent, Tomb,
 
 -- ---- what has a spelling
 
--- the mode is at most 4095, the directory, which is 0 for a file, below 2^48, and the other numbers are within their widths
+-- the mode is at most 4095, the directory, which is 0 for a file, below 2^48, and the other numbers are within their
+-- widths
 pub record IsAttr (attr : Attr) : Type 0 where
   pub dir : attr.dir < 2 ^ 48
   pub mode : attr.mode ≤ 4095
@@ -50,11 +52,13 @@ stamp_spelling attr = to_be_bytes w32 attr.owner ++ to_be_bytes w64 attr.mtime
 -- mark 0 for a tombstone, 2 where owner or time is not 0, else 1, and the attributes of the mark
 abbrev pub marked_spelling : Option Attr → List ℕ
 marked_spelling None = 0 ∷ []
-marked_spelling (Some attr) = if is_stamped attr then 2 ∷ (plain_spelling attr ++ stamp_spelling attr) else 1 ∷ plain_spelling attr
+marked_spelling (Some attr) =
+    if is_stamped attr then 2 ∷ (plain_spelling attr ++ stamp_spelling attr) else 1 ∷ plain_spelling attr
 
 -- directory, partition, reversed hash, and the name behind its length
 abbrev pub key_spelling : RowKey → List ℕ
-key_spelling key = to_be_bytes w64 key.dir ++ (to_be_bytes w32 key.part ++ (to_be_bytes w64 key.rev ++ (length key.name ∷ key.name)))
+key_spelling key =
+    to_be_bytes w64 key.dir ++ (to_be_bytes w32 key.part ++ (to_be_bytes w64 key.rev ++ (length key.name ∷ key.name)))
 
 abbrev pub row_spelling : TableRow → List ℕ
 row_spelling row = key_spelling row.key ++ marked_spelling row.attr
@@ -82,10 +86,14 @@ abbrev pub held_in : List TableRow → RowKey → Held
 held_in [] key = Absent
 held_in (row ∷ rows) key = if is_eq (row_key_cmp row.key key) then held_of row.attr else held_in rows key
 
+-- the first row whose key does not pass this test
+abbrev pub row_behind : (RowKey → Bool) → List TableRow → Option TableRow
+row_behind before [] = None
+row_behind before (row ∷ rows) = if before row.key then row_behind before rows else Some row
+
 -- the first row that is not below this key
 abbrev pub row_from : List TableRow → RowKey → Option TableRow
-row_from [] key = None
-row_from (row ∷ rows) key = if is_lt (row_key_cmp row.key key) then row_from rows key else Some row
+row_from rows key = row_behind (λ other. is_lt (row_key_cmp other key)) rows
 
 -- its key
 abbrev pub key_of : Option TableRow → Option RowKey

@@ -30,7 +30,8 @@ pub record IsSomeTable (table : TableState) (bytes : List ℕ) : Type 0 where
   pub rows : List TableRow
   pub has : HasRows table rows bytes
 
--- The file is as the calls of this table left it: it reaches over all blocks, and where the disk tells it, it is the table.
+-- The file is as the calls of this table left it: it reaches over all blocks, and where the disk tells it, it is the
+-- table.
 pub record IsReady (table : TableState) (seen : Contents) (sizes : Lengths) : Type 0 where
   pub size : ℕ
   pub known : sizes table.file ≡ Some size

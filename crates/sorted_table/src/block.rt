@@ -4,12 +4,13 @@ ghost use Rattle.std.specs.Option.{option_map};
 ghost use Rattle.mds_base.specs.Name.{is_name};
 ghost use Rattle.sorted_table.specs.Blocks.{block_size};
 ghost use Rattle.sorted_table.specs.Lines.{row_in};
-ghost use Rattle.sorted_table.specs.Reading.{Gives, are_zeros, rows_at, from_at, block_at};
-ghost use Rattle.sorted_table.specs.TableRows.{row_from};
+ghost use Rattle.sorted_table.specs.Reading.{Gives, are_zeros, rows_at, behind_at, block_at};
+ghost use Rattle.sorted_table.specs.Starts.{is_before};
+ghost use Rattle.sorted_table.specs.TableRows.{row_behind, row_from};
 ghost use Rattle.sorted_table.specs.declared.table_row.TableRow.{TableRow};
 
-use crate::TableRow;
 use crate::reading::{Line, row_at, u16_at};
+use crate::{Start, TableRow};
 use mds_base::RowKey;
 use std::alloc::{AllocError, Global};
 
@@ -63,21 +64,31 @@ fn are_zeros(bytes: &[u8]) -> bool
 
 /// The first row of a block that is not below a key; `None` where the bytes up to it are no block.
 pub(crate) fn block_from<'a>(block: &'a [u8], key: &RowKey) -> Option<Option<Line<'a>>>
-    ensures from { (rows : List TableRow) → block_at block.now ≡ Some rows → Gives (λ line. option_map row_in line) result (Some (row_from rows key.now)) }
+    ensures from { (rows : List TableRow) → block_at block.now ≡ Some rows
+        → Gives (λ line. option_map row_in line) result (Some (row_from rows key.now)) }
+    ensures named { IfSome result (λ line. IfSome line (λ l. IsTrue (is_name l.key.name.now))) }
+{
+    block_behind(block, &Start::at(key))
+}
+
+/// The first row of a block that is not before a start; `None` where the bytes up to it are no block.
+pub(crate) fn block_behind<'a>(block: &'a [u8], start: &Start<'_>) -> Option<Option<Line<'a>>>
+    ensures from { (rows : List TableRow) → block_at block.now ≡ Some rows
+        → Gives (λ line. option_map row_in line) result (Some (row_behind (is_before start.now) rows)) }
     ensures named { IfSome result (λ line. IfSome line (λ l. IsTrue (is_name l.key.name.now))) }
 {
     let (count, rest) = u16_at(block)?;
-    from_at(count as usize, rest, key)
+    behind_at(count as usize, rest, start)
 }
 
-fn from_at<'a>(count: usize, bytes: &'a [u8], key: &RowKey) -> Option<Option<Line<'a>>>
-    ensures from { Gives (λ line. option_map row_in line) result (from_at count key.now bytes.now) }
+fn behind_at<'a>(count: usize, bytes: &'a [u8], start: &Start<'_>) -> Option<Option<Line<'a>>>
+    ensures from { Gives (λ line. option_map row_in line) result (behind_at count (is_before start.now) bytes.now) }
     ensures named { IfSome result (λ line. IfSome line (λ l. IsTrue (is_name l.key.name.now))) }
 {
     let mut rest = bytes;
     for _place in 0..count {
         let (line, after) = row_at(rest)?;
-        if !line.key.compare(key).is_lt() {
+        if !start.has_line_before(&line.key) {
             return Some(Some(line));
         }
         rest = after;

@@ -1,7 +1,8 @@
-ghost use Rattle.std.specs.Prelude.{◌≡◌, ◌+◌, ◌*◌, ◌<◌, ◌≤◌, ◌^◌, ◌++◌, ◌∷◌, [], List, ℕ, Option, OnOk, IfOk, IsErrOf, length};
+ghost use Rattle.std.specs.Prelude.{◌≡◌, ◌+◌, ◌*◌, ◌<◌, ◌≤◌, ◌^◌, ◌++◌, ◌∷◌, [], List, ℕ, Option, OnOk, IfOk, IsErrOf};
+ghost use Rattle.std.specs.Prelude.{length};
 ghost use Rattle.std.specs.Option.{option_map};
 ghost use Rattle.gate_log.specs.LogState.{IsElsewhereOld};
-ghost use Rattle.mds_out.specs.Disk.{LeavesOnly, IsElsewhereUnchanged};
+ghost use Rattle.mds_out.specs.Disk.{LeavesOnly, IsElsewhereUnchanged, StaysTold};
 ghost use Rattle.sorted_table.specs.Answers.{IsMemoryAnswer, HasTableCause};
 ghost use Rattle.sorted_table.specs.Building.{Builds, IsBuilt, HasRoom, IsGrowing, AllBelow, closed};
 ghost use Rattle.sorted_table.specs.TableRows.{IsMarked, row_spelling, key_spelling, marked_spelling};
@@ -67,13 +68,19 @@ impl Builder {
         requires attr { IsMarked (option_map (λ a. a.now) attr) }
         requires growing { IsGrowing self.old (D.sizes disk.old) }
         ensures file { self.new.file ≡ self.old.file }
-        ensures written { OnOk result ((self.old.written ≤ self.new.written) × (self.new.written ≤ self.old.written + 1)) }
+        ensures written { OnOk result
+            ((self.old.written ≤ self.new.written) × (self.new.written ≤ self.old.written + 1)) }
         ensures some { OnOk result (0 < self.new.count) }
-        ensures built { OnOk result ((rows : List TableRow) → IsBuilt self.old rows (D.seen disk.old self.old.file) → AllBelow rows key.now
-            → IsBuilt self.new (rows ++ record { key = key.now; attr = option_map (λ a. a.now) attr.entry } ∷ []) (D.seen disk.new self.old.file)) }
+        ensures built { OnOk result
+            ((rows : List TableRow) → IsBuilt self.old rows (D.seen disk.old self.old.file) → AllBelow rows key.now
+            → IsBuilt self.new (rows ++ record { key = key.now; attr = option_map (λ a. a.now) attr.entry } ∷ [])
+            (D.seen disk.new self.old.file)) }
         ensures growing { OnOk result (IsGrowing self.new (D.sizes disk.new)) }
-        ensures any_moment { LeavesOnly D.moment D.images_since disk.old disk.new (IsElsewhereOld self.old.file (D.images disk.old)) }
-        ensures elsewhere { IsElsewhereUnchanged self.old.file (D.seen disk.old) (D.seen disk.new) (D.sizes disk.old) (D.sizes disk.new) }
+        ensures any_moment { LeavesOnly D.moment D.images_since disk.old disk.new
+            (IsElsewhereOld self.old.file (D.images disk.old)) }
+        ensures elsewhere { IsElsewhereUnchanged self.old.file (D.seen disk.old) (D.seen disk.new) (D.sizes disk.old)
+            (D.sizes disk.new) }
+        ensures stays_told { StaysTold (D.seen disk.old self.old.file) (D.seen disk.new self.old.file) }
         ensures answer { IsMemoryAnswer result }
         ensures cause { HasTableCause (D.faults disk.old) (D.faults disk.new) result }
         ensures lasts { D.lasts disk.old disk.new }
@@ -91,11 +98,18 @@ impl Builder {
     pub fn finish<D: Disk>(mut self, disk: &mut D) -> Result<Table, TableFault>
         requires growing { IsGrowing self (D.sizes disk.old) }
         ensures file { IfOk result (λ table. table.file ≡ self.file) }
-        ensures ready { IfOk result (λ table. (rows : List TableRow) → IsBuilt self rows (D.seen disk.old self.file) → IsReady table (D.seen disk.new) (D.sizes disk.new)) }
-        ensures rows { IfOk result (λ table. (rows : List TableRow) → IsBuilt self rows (D.seen disk.old self.file) → HoldsRows table (D.seen disk.new) rows) }
+        ensures ready { IfOk result
+            (λ table. (rows : List TableRow) → IsBuilt self rows (D.seen disk.old self.file)
+            → IsReady table (D.seen disk.new) (D.sizes disk.new)) }
+        ensures rows { IfOk result
+            (λ table. (rows : List TableRow) → IsBuilt self rows (D.seen disk.old self.file)
+            → HoldsRows table (D.seen disk.new) rows) }
         ensures durable { OnOk result (IsDurable self.file (D.seen disk.new) (D.images disk.new)) }
-        ensures any_moment { LeavesOnly D.moment D.images_since disk.old disk.new (IsElsewhereOld self.file (D.images disk.old)) }
-        ensures elsewhere { IsElsewhereUnchanged self.file (D.seen disk.old) (D.seen disk.new) (D.sizes disk.old) (D.sizes disk.new) }
+        ensures any_moment { LeavesOnly D.moment D.images_since disk.old disk.new
+            (IsElsewhereOld self.file (D.images disk.old)) }
+        ensures elsewhere { IsElsewhereUnchanged self.file (D.seen disk.old) (D.seen disk.new) (D.sizes disk.old)
+            (D.sizes disk.new) }
+        ensures stays_told { StaysTold (D.seen disk.old self.file) (D.seen disk.new self.file) }
         ensures answer { IsMemoryAnswer result }
         ensures cause { HasTableCause (D.faults disk.old) (D.faults disk.new) result }
         ensures lasts { D.lasts disk.old disk.new }
@@ -112,11 +126,17 @@ impl Builder {
         requires small { size ≤ 307 }
         requires growing { IsGrowing self.old (D.sizes disk.old) }
         ensures file { self.new.file ≡ self.old.file }
-        ensures count { OnOk result ((self.old.written ≤ self.new.written) × (self.new.written ≤ self.old.written + 1)) }
-        ensures room { OnOk result ((rows : List TableRow) → IsBuilt self.old rows (D.seen disk.old self.old.file) → HasRoom self.new size rows (D.seen disk.new self.old.file)) }
+        ensures count { OnOk result
+            ((self.old.written ≤ self.new.written) × (self.new.written ≤ self.old.written + 1)) }
+        ensures room { OnOk result
+            ((rows : List TableRow) → IsBuilt self.old rows (D.seen disk.old self.old.file)
+            → HasRoom self.new size rows (D.seen disk.new self.old.file)) }
         ensures growing { OnOk result (IsGrowing self.new (D.sizes disk.new)) }
-        ensures any_moment { LeavesOnly D.moment D.images_since disk.old disk.new (IsElsewhereOld self.old.file (D.images disk.old)) }
-        ensures elsewhere { IsElsewhereUnchanged self.old.file (D.seen disk.old) (D.seen disk.new) (D.sizes disk.old) (D.sizes disk.new) }
+        ensures any_moment { LeavesOnly D.moment D.images_since disk.old disk.new
+            (IsElsewhereOld self.old.file (D.images disk.old)) }
+        ensures elsewhere { IsElsewhereUnchanged self.old.file (D.seen disk.old) (D.seen disk.new) (D.sizes disk.old)
+            (D.sizes disk.new) }
+        ensures stays_told { StaysTold (D.seen disk.old self.old.file) (D.seen disk.new self.old.file) }
         ensures answer { IsMemoryAnswer result }
         ensures cause { HasTableCause (D.faults disk.old) (D.faults disk.new) result }
         ensures lasts { D.lasts disk.old disk.new }
@@ -135,8 +155,12 @@ impl Builder {
         ensures file { self.new.file ≡ self.old.file }
         ensures written { self.new.written ≡ self.old.written }
         ensures some { OnOk result (0 < self.new.count) }
-        ensures built { OnOk result ((rows : List TableRow) (seen : Option (List ℕ)) → HasRoom self.old (length (key_spelling key.now ++ marked_spelling (option_map (λ a. a.now) attr.entry))) rows seen → AllBelow rows key.now
-            → IsBuilt self.new (rows ++ record { key = key.now; attr = option_map (λ a. a.now) attr.entry } ∷ []) seen) }
+        ensures built { OnOk result
+            ((rows : List TableRow) (seen : Option (List ℕ))
+            → HasRoom self.old (length (key_spelling key.now ++ marked_spelling (option_map (λ a. a.now) attr.entry)))
+            rows seen → AllBelow rows key.now
+            → IsBuilt self.new (rows ++ record { key = key.now; attr = option_map (λ a. a.now) attr.entry } ∷ [])
+            seen) }
     {
         let Some(count) = self.count.checked_add(1) else {
             return Err(AllocError);
@@ -153,7 +177,8 @@ impl Builder {
 
     // Keeps the key of a row that begins a block.
     fn keep_first(&mut self, alloc: Global, key: &RowKey) -> Result<(), AllocError>
-        ensures first { OnOk result (self.old.count ≡ 0 → self.new.firsts.items ≡ self.old.firsts.items ++ key.now ∷ []) }
+        ensures first { OnOk result
+            (self.old.count ≡ 0 → self.new.firsts.items ≡ self.old.firsts.items ++ key.now ∷ []) }
         ensures later { 0 < self.old.count → self.new.firsts ≡ self.old.firsts }
         ensures others { self.new ≡ record self.old { firsts = self.new.firsts } }
     {
@@ -168,11 +193,16 @@ impl Builder {
     fn write_last<D: Disk>(&mut self, disk: &mut D) -> Result<(), TableFault>
         requires growing { IsGrowing self.old (D.sizes disk.old) }
         ensures file { self.new.file ≡ self.old.file }
-        ensures written { OnOk result ((full : List (List TableRow)) (present rows : List TableRow) → Builds self.old full present rows (D.seen disk.old self.old.file)
+        ensures written { OnOk result
+            ((full : List (List TableRow)) (present rows : List TableRow)
+            → Builds self.old full present rows (D.seen disk.old self.old.file)
             → Builds self.new (closed full present) [] rows (D.seen disk.new self.old.file)) }
         ensures growing { OnOk result (IsGrowing self.new (D.sizes disk.new)) }
-        ensures any_moment { LeavesOnly D.moment D.images_since disk.old disk.new (IsElsewhereOld self.old.file (D.images disk.old)) }
-        ensures elsewhere { IsElsewhereUnchanged self.old.file (D.seen disk.old) (D.seen disk.new) (D.sizes disk.old) (D.sizes disk.new) }
+        ensures any_moment { LeavesOnly D.moment D.images_since disk.old disk.new
+            (IsElsewhereOld self.old.file (D.images disk.old)) }
+        ensures elsewhere { IsElsewhereUnchanged self.old.file (D.seen disk.old) (D.seen disk.new) (D.sizes disk.old)
+            (D.sizes disk.new) }
+        ensures stays_told { StaysTold (D.seen disk.old self.old.file) (D.seen disk.new self.old.file) }
         ensures answer { IsMemoryAnswer result }
         ensures cause { HasTableCause (D.faults disk.old) (D.faults disk.new) result }
         ensures lasts { D.lasts disk.old disk.new }
@@ -189,13 +219,18 @@ impl Builder {
     fn write_block<D: Disk>(&mut self, disk: &mut D) -> Result<(), TableFault>
         requires growing { IsGrowing self.old (D.sizes disk.old) }
         ensures file { self.new.file ≡ self.old.file }
-        ensures written { OnOk result ((full : List (List TableRow)) (present rows : List TableRow) → Builds self.old full present rows (D.seen disk.old self.old.file) → 0 < length present
+        ensures written { OnOk result
+            ((full : List (List TableRow)) (present rows : List TableRow)
+            → Builds self.old full present rows (D.seen disk.old self.old.file) → 0 < length present
             → Builds self.new (full ++ present ∷ []) [] rows (D.seen disk.new self.old.file)) }
         ensures empty { OnOk result (length self.new.rows.items ≡ 0) }
         ensures count { OnOk result (self.new.written ≡ self.old.written + 1) }
         ensures growing { OnOk result (IsGrowing self.new (D.sizes disk.new)) }
-        ensures any_moment { LeavesOnly D.moment D.images_since disk.old disk.new (IsElsewhereOld self.old.file (D.images disk.old)) }
-        ensures elsewhere { IsElsewhereUnchanged self.old.file (D.seen disk.old) (D.seen disk.new) (D.sizes disk.old) (D.sizes disk.new) }
+        ensures any_moment { LeavesOnly D.moment D.images_since disk.old disk.new
+            (IsElsewhereOld self.old.file (D.images disk.old)) }
+        ensures elsewhere { IsElsewhereUnchanged self.old.file (D.seen disk.old) (D.seen disk.new) (D.sizes disk.old)
+            (D.sizes disk.new) }
+        ensures stays_told { StaysTold (D.seen disk.old self.old.file) (D.seen disk.new self.old.file) }
         ensures answer { IsMemoryAnswer result }
         ensures cause { HasTableCause (D.faults disk.old) (D.faults disk.new) result }
         ensures lasts { D.lasts disk.old disk.new }
@@ -218,11 +253,19 @@ impl Builder {
     fn seal<D: Disk>(mut self, disk: &mut D) -> Result<Table, TableFault>
         requires growing { IsGrowing self (D.sizes disk.old) }
         ensures file { IfOk result (λ table. table.file ≡ self.file) }
-        ensures ready { IfOk result (λ table. (full : List (List TableRow)) (rows : List TableRow) → Builds self full [] rows (D.seen disk.old self.file) → IsReady table (D.seen disk.new) (D.sizes disk.new)) }
-        ensures rows { IfOk result (λ table. (full : List (List TableRow)) (rows : List TableRow) → Builds self full [] rows (D.seen disk.old self.file) → HoldsRows table (D.seen disk.new) rows) }
+        ensures ready { IfOk result
+            (λ table. (full : List (List TableRow)) (rows : List TableRow)
+            → Builds self full [] rows (D.seen disk.old self.file)
+            → IsReady table (D.seen disk.new) (D.sizes disk.new)) }
+        ensures rows { IfOk result
+            (λ table. (full : List (List TableRow)) (rows : List TableRow)
+            → Builds self full [] rows (D.seen disk.old self.file) → HoldsRows table (D.seen disk.new) rows) }
         ensures durable { OnOk result (IsDurable self.file (D.seen disk.new) (D.images disk.new)) }
-        ensures any_moment { LeavesOnly D.moment D.images_since disk.old disk.new (IsElsewhereOld self.file (D.images disk.old)) }
-        ensures elsewhere { IsElsewhereUnchanged self.file (D.seen disk.old) (D.seen disk.new) (D.sizes disk.old) (D.sizes disk.new) }
+        ensures any_moment { LeavesOnly D.moment D.images_since disk.old disk.new
+            (IsElsewhereOld self.file (D.images disk.old)) }
+        ensures elsewhere { IsElsewhereUnchanged self.file (D.seen disk.old) (D.seen disk.new) (D.sizes disk.old)
+            (D.sizes disk.new) }
+        ensures stays_told { StaysTold (D.seen disk.old self.file) (D.seen disk.new self.file) }
         ensures answer { IsMemoryAnswer result }
         ensures cause { HasTableCause (D.faults disk.old) (D.faults disk.new) result }
         ensures lasts { D.lasts disk.old disk.new }

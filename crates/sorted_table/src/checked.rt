@@ -44,7 +44,9 @@ impl Checked {
         requires size { size ≡ block_size rows.now }
         requires small { size ≤ BLOCK_BYTES }
         ensures good { IfOk result (λ good. good ≡ follows self.old.size self.old.last self.old.rows rows.now) }
-        ensures checked { IfOk result (λ good. IsTrue good → (blocks : List (List TableRow)) → IsChecked self.old blocks → IsChecked self.new (blocks ++ rows.now ∷ [])) }
+        ensures checked { IfOk result
+            (λ good. IsTrue good → (blocks : List (List TableRow)) → IsChecked self.old blocks
+            → IsChecked self.new (blocks ++ rows.now ∷ [])) }
         ensures count { IfOk result (λ good. length self.new.firsts.items ≤ length self.old.firsts.items + 1) }
     {
         let (Some(first), Some(last)) = (rows.first(), rows.last()) else {

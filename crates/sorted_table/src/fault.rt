@@ -21,9 +21,9 @@ pub enum TableFault {
     /// The disk failed; its count of faults has risen.
     #[error("device fault")]
     Device,
-    /// The file is no table. The place is that of the stored sum where the sum is another, else 0.
-    #[error("damaged table at byte {place}")]
-    Damaged { place: u64, damage: TableDamage },
+    /// The file is no table. The offset is that of the stored sum where the sum is another, else 0.
+    #[error("damaged table at byte {offset}")]
+    Damaged { offset: u64, damage: TableDamage },
     /// There was no memory, and the disk's count of faults is as before: it never stands for a fault of the device.
     #[error("out of memory")]
     OutOfMemory,

@@ -1,12 +1,14 @@
 //! Reading the file of a table, block by block.
-ghost use Rattle.std.specs.Prelude.{◌≡◌, ◌+◌, ◌*◌, ◌-◌, ◌<◌, ◌≤◌, ◌^◌, ◌++◌, List, ℕ, Option, Some, IfOk, OnOk, IsErrOf, IsTrue, ◌↔◌, take, drop, length};
+ghost use Rattle.std.specs.Prelude.{◌≡◌, ◌+◌, ◌*◌, ◌-◌, ◌<◌, ◌≤◌, ◌^◌, ◌++◌, List, ℕ, Option, Some, IfOk, OnOk};
+ghost use Rattle.std.specs.Prelude.{IsErrOf, IsTrue, ◌↔◌, take, drop, length};
 ghost use Rattle.mds_out.specs.Disk.{AreSame, LeavesOnly, IsUnchanged, HasDiskCause};
 ghost use Rattle.mds_out.specs.Calls.{next_number};
 ghost use Rattle.mds_out.specs.Known.{OnTold};
 ghost use Rattle.sorted_table.specs.Answers.{IsMemoryAnswer, IsOpenAnswer, HasTableCause};
 ghost use Rattle.sorted_table.specs.Checks.{IsRead};
 ghost use Rattle.md5.specs.Md5.{md5};
-ghost use Rattle.sorted_table.specs.Openings.{IsOpening, KeepsAtMost, counts_at, IsVerdict, IsVerdictAnswer};
+ghost use Rattle.sorted_table.specs.Openings.{IsOpening, KeepsAtMost, AsksByBlock, counts_at, IsVerdict};
+ghost use Rattle.sorted_table.specs.Openings.{IsVerdictAnswer};
 ghost use Rattle.sorted_table.specs.Tables.{IsReady, IsSomeTable};
 
 use crate::block::block_rows;
@@ -58,7 +60,8 @@ fn read_blocks<D: Disk>(
     requires short { end < 2 ^ 63 }
     requires known { D.sizes disk.old file ≡ Some (end + SUM_BYTES) }
     ensures opening { IfOk result (λ opening. OnTold (D.seen disk.old file) (IsOpening opening)) }
-    ensures aligned { IfOk result (λ opening. (n : ℕ) × (opening.at ≡ BLOCK_BYTES * n) × KeepsAtMost n opening.checked) }
+    ensures aligned { IfOk result
+        (λ opening. (n : ℕ) × (opening.at ≡ BLOCK_BYTES * n) × KeepsAtMost n opening.checked) }
     ensures at { IfOk result (λ opening. (opening.at ≤ end) × (end < opening.at + BLOCK_BYTES)) }
     ensures unchanged { IsUnchanged (D.seen disk.old) (D.seen disk.new) (D.sizes disk.old) (D.sizes disk.new) }
     ensures crash { AreSame (D.images disk.old) (D.images disk.new) }
@@ -67,6 +70,7 @@ fn read_blocks<D: Disk>(
     ensures cause { HasTableCause (D.faults disk.old) (D.faults disk.new) result }
     ensures lasts { D.lasts disk.old disk.new }
     ensures failed { IsErrOf result TableFault.Device → D.fails disk.old disk.new }
+    ensures asked { AsksByBlock 0 end (D.asked disk.old) (D.asked disk.new) }
     ensures changes { D.changes_asked disk.new ≡ D.changes_asked disk.old }
 {
     let mut at = 0;
@@ -90,7 +94,8 @@ pub(crate) fn read_at<D: Disk>(
 ) -> Result<(), DiskFault>
     requires short { at + length into.old < 2 ^ 63 }
     requires within { OnTold (D.sizes disk.old file) (λ size. at + length into.old ≤ size) }
-    ensures bytes { OnOk result (OnTold (D.seen disk.old file) (λ bytes. into.new ≡ take (length into.old) (drop at bytes))) }
+    ensures bytes { OnOk result
+        (OnTold (D.seen disk.old file) (λ bytes. into.new ≡ take (length into.old) (drop at bytes))) }
     ensures unchanged { IsUnchanged (D.seen disk.old) (D.seen disk.new) (D.sizes disk.old) (D.sizes disk.new) }
     ensures crash { AreSame (D.images disk.old) (D.images disk.new) }
     ensures any_moment { LeavesOnly D.moment D.images_since disk.old disk.new (D.images disk.old) }
@@ -144,24 +149,29 @@ fn verdict(
 ) -> Result<Table, TableFault>
     requires small { length counts.now < BLOCK_BYTES }
     requires sum { length kept ≡ SUM_BYTES }
-    ensures verdict { (bytes front : List ℕ) → IsRead checked front → (k : ℕ) → length front ≡ 4096 * k → bytes ≡ (front ++ counts.now) ++ kept → found ≡ md5 (front ++ counts.now) → end ≡ length (front ++ counts.now) → 28 ≤ length bytes → IsVerdict file bytes result }
+    ensures verdict { (bytes front : List ℕ) → IsRead checked front → (k : ℕ) → length front ≡ 4096 * k
+        → bytes ≡ (front ++ counts.now) ++ kept → found ≡ md5 (front ++ counts.now) → end ≡ length (front ++ counts.now)
+        → 28 ≤ length bytes → IsVerdict file bytes result }
     ensures answer { IsVerdictAnswer result }
     ensures file { IfOk result (λ table. table.file ≡ file) }
     ensures firsts { IfOk result (λ table. (n : ℕ) → KeepsAtMost n checked → length table.firsts ≤ n) }
 {
     if !is_same(&kept, &found) {
         let damage = TableDamage::Sum { kept, found };
-        return Err(TableFault::Damaged { place: end, damage });
+        return Err(TableFault::Damaged {
+            offset: end,
+            damage,
+        });
     }
     let Some(checked) = checked else {
         return Err(TableFault::Damaged {
-            place: 0,
+            offset: 0,
             damage: TableDamage::Spelling,
         });
     };
     if !has_counts(&checked, counts) {
         return Err(TableFault::Damaged {
-            place: 0,
+            offset: 0,
             damage: TableDamage::Spelling,
         });
     }
@@ -188,12 +198,13 @@ pub(crate) fn open_in<D: Disk>(
     ensures cause { HasTableCause (D.faults disk.old) (D.faults disk.new) result }
     ensures lasts { D.lasts disk.old disk.new }
     ensures failed { IsErrOf result TableFault.Device → D.fails disk.old disk.new }
+    ensures asked { OnTold (D.sizes disk.new file) (λ size. AsksByBlock 3 size (D.asked disk.old) (D.asked disk.new)) }
     ensures changes { D.changes_asked disk.new ≡ D.changes_asked disk.old }
 {
     let size = disk.length(file)?;
     if size < FIXED_BYTES as u64 {
         return Err(TableFault::Damaged {
-            place: 0,
+            offset: 0,
             damage: TableDamage::Spelling,
         });
     }
@@ -227,6 +238,7 @@ fn open_rest<D: Disk>(
     ensures cause { HasTableCause (D.faults disk.old) (D.faults disk.new) result }
     ensures lasts { D.lasts disk.old disk.new }
     ensures failed { IsErrOf result TableFault.Device → D.fails disk.old disk.new }
+    ensures asked { D.asked disk.new ≤ D.asked disk.old + 2 }
     ensures changes { D.changes_asked disk.new ≡ D.changes_asked disk.old }
 {
     let Opening {

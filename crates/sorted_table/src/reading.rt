@@ -4,7 +4,8 @@ ghost use Rattle.std.specs.Int.{w16, w32, w64, from_be_bytes};
 ghost use Rattle.mds_base.specs.Name.{is_name};
 ghost use Rattle.mds_base.specs.RowKeys.{row_key_cmp};
 ghost use Rattle.sorted_table.specs.Lines.{row_in, key_in};
-ghost use Rattle.sorted_table.specs.Reading.{Gives, u16_at, u32_at, u64_at, name_at, key_at, plain_at, stamped_at, marked_at, row_at};
+ghost use Rattle.sorted_table.specs.Reading.{Gives, u16_at, u32_at, u64_at, name_at, key_at, plain_at, stamped_at};
+ghost use Rattle.sorted_table.specs.Reading.{marked_at, row_at};
 
 use crate::TableRow;
 use mds_base::limits::{DIRECTORIES, MODE_MOST};
@@ -46,10 +47,18 @@ impl KeyLine<'_> {
     pub(crate) fn compare(&self, key: &RowKey) -> Ordering
         ensures { result ≡ row_key_cmp (key_in self.now) key.now }
     {
-        self.dir.cmp(&key.dir).then(
-            self.part.cmp(&key.part).then(
-                self.rev.cmp(&key.rev).then(self.name.cmp(key.name.bytes())),
-            ),
+        self.compare_to(key.dir, key.part, key.rev, key.name.bytes())
+    }
+
+    /// How the key stands to the place with these parts, whose name may be any bytes.
+    pub(crate) fn compare_to(&self, dir: u64, part: u32, rev: u64, name: &[u8]) -> Ordering
+        ensures { result ≡ row_key_cmp (key_in self.now)
+            (record { dir = dir; part = part; rev = rev; name = name.now }) }
+    {
+        self.dir.cmp(&dir).then(
+            self.part
+                .cmp(&part)
+                .then(self.rev.cmp(&rev).then(self.name.cmp(name))),
         )
     }
 

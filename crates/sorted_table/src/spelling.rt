@@ -1,9 +1,11 @@
 //! Spelling a row into the bytes of its block.
-ghost use Rattle.std.specs.Prelude.{◌≡◌, ◌+◌, ◌<◌, ◌≤◌, ◌++◌, ◌∷◌, ◌-◌, ◌^◌, Option, OnOk, IsTrue, length, take, replicate};
+ghost use Rattle.std.specs.Prelude.{◌≡◌, ◌+◌, ◌<◌, ◌≤◌, ◌++◌, ◌∷◌, ◌-◌, ◌^◌, Option, OnOk, IsTrue, length, take};
+ghost use Rattle.std.specs.Prelude.{replicate};
 ghost use Rattle.std.specs.Int.{w16, w32, w64, to_be_bytes};
 ghost use Rattle.std.specs.Option.{option_map};
 ghost use Rattle.mds_base.specs.Name.{is_name};
-ghost use Rattle.sorted_table.specs.TableRows.{IsKey, IsMarked, plain_spelling, stamp_spelling, marked_spelling, key_spelling, row_spelling};
+ghost use Rattle.sorted_table.specs.TableRows.{IsKey, IsMarked, plain_spelling, stamp_spelling, marked_spelling};
+ghost use Rattle.sorted_table.specs.TableRows.{key_spelling, row_spelling};
 
 use crate::BLOCK_BYTES;
 use byteorder::{BigEndian, ByteOrder};
@@ -35,7 +37,8 @@ fn put_u64(out: &mut Vec<u8>, number: u64) -> Result<(), AllocError>
 }
 
 fn put_numbers(out: &mut Vec<u8>, dir: u64, part: u32, rev: u64) -> Result<(), AllocError>
-    ensures { OnOk result (out.new.items ≡ out.old.items ++ (to_be_bytes w64 dir ++ (to_be_bytes w32 part ++ to_be_bytes w64 rev))) }
+    ensures { OnOk result
+        (out.new.items ≡ out.old.items ++ (to_be_bytes w64 dir ++ (to_be_bytes w32 part ++ to_be_bytes w64 rev))) }
 {
     put_u64(out, dir)?;
     put_u32(out, part)?;
@@ -110,7 +113,10 @@ fn put_marked(out: &mut Vec<u8>, attr: Option<&Attr>) -> Result<(), AllocError>
 
 /// Fills a block: the count of its rows, the rows, and zeros to its end.
 pub(crate) fn fill_block(block: &mut Vec<u8>, count: u16, rows: &[u8]) -> Result<(), AllocError>
-    ensures block { OnOk result (block.new.items ≡ take BLOCK_BYTES (to_be_bytes w16 count ++ rows.now) ++ replicate (BLOCK_BYTES - length (to_be_bytes w16 count ++ rows.now)) 0) }
+    ensures block { OnOk result
+        (block.new.items
+        ≡ take BLOCK_BYTES (to_be_bytes w16 count ++ rows.now)
+        ++ replicate (BLOCK_BYTES - length (to_be_bytes w16 count ++ rows.now)) 0) }
     ensures size { OnOk result (length block.new.items ≡ BLOCK_BYTES) }
 {
     block.clear();
@@ -138,7 +144,9 @@ pub(crate) fn put_row(
 ) -> Result<(), AllocError>
     requires { IsMarked (option_map (λ a. a.now) attr) }
     ensures key { OnOk result (IsKey key.now) }
-    ensures put { OnOk result (out.new.items ≡ out.old.items ++ (key_spelling key.now ++ marked_spelling (option_map (λ a. a.now) attr.entry))) }
+    ensures put { OnOk result
+        (out.new.items
+        ≡ out.old.items ++ (key_spelling key.now ++ marked_spelling (option_map (λ a. a.now) attr.entry))) }
 {
     put_key(out, key)?;
     put_marked(out, attr)

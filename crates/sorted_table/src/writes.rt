@@ -1,7 +1,7 @@
 //! The writes of a builder, each behind the one before.
 ghost use Rattle.std.specs.Prelude.{◌≡◌, ◌+◌, ◌*◌, ◌<◌, ◌≤◌, ◌^◌, ◌++◌, List, ℕ, Some, OnOk, IsErrOf, length};
 ghost use Rattle.gate_log.specs.LogState.{IsElsewhereOld};
-ghost use Rattle.mds_out.specs.Disk.{LeavesOnly, IsElsewhereUnchanged, HasDiskCause};
+ghost use Rattle.mds_out.specs.Disk.{LeavesOnly, IsElsewhereUnchanged, HasDiskCause, StaysTold};
 ghost use Rattle.mds_out.specs.Known.{OnTold};
 ghost use Rattle.sorted_table.specs.Tables.{IsDurable};
 
@@ -12,9 +12,15 @@ use mds_out::{Disk, DiskFault};
 fn begin_file<D: Disk>(disk: &mut D, file: u32, written: u32) -> Result<(), DiskFault>
     requires growing { 0 < written → D.sizes disk.old file ≡ Some (BLOCK_BYTES * written) }
     ensures size { OnOk result (D.sizes disk.new file ≡ Some (BLOCK_BYTES * written)) }
-    ensures told { OnOk result ((before : List ℕ) → length before ≡ BLOCK_BYTES * written → (0 < written → OnTold (D.seen disk.old file) (λ bytes. bytes ≡ before)) → OnTold (D.seen disk.new file) (λ bytes. bytes ≡ before)) }
-    ensures any_moment { LeavesOnly D.moment D.images_since disk.old disk.new (IsElsewhereOld file (D.images disk.old)) }
-    ensures elsewhere { IsElsewhereUnchanged file (D.seen disk.old) (D.seen disk.new) (D.sizes disk.old) (D.sizes disk.new) }
+    ensures told { OnOk result
+        ((before : List ℕ) → length before ≡ BLOCK_BYTES * written
+        → (0 < written → OnTold (D.seen disk.old file) (λ bytes. bytes ≡ before))
+        → OnTold (D.seen disk.new file) (λ bytes. bytes ≡ before)) }
+    ensures any_moment { LeavesOnly D.moment D.images_since disk.old disk.new
+        (IsElsewhereOld file (D.images disk.old)) }
+    ensures elsewhere { IsElsewhereUnchanged file (D.seen disk.old) (D.seen disk.new) (D.sizes disk.old)
+        (D.sizes disk.new) }
+    ensures stays_told { StaysTold (D.seen disk.old file) (D.seen disk.new file) }
     ensures cause { HasDiskCause (D.faults disk.old) (D.faults disk.new) result }
     ensures lasts { D.lasts disk.old disk.new }
     ensures failed { IsErrOf result DiskFault.Device → D.fails disk.old disk.new }
@@ -31,9 +37,14 @@ fn write_behind<D: Disk>(disk: &mut D, file: u32, at: u64, bytes: &[u8]) -> Resu
     requires known { D.sizes disk.old file ≡ Some at }
     requires short { at + length bytes.now < 2 ^ 63 }
     ensures size { OnOk result (D.sizes disk.new file ≡ Some (at + length bytes.now)) }
-    ensures told { OnOk result ((before : List ℕ) → length before ≡ at → OnTold (D.seen disk.old file) (λ held. held ≡ before) → OnTold (D.seen disk.new file) (λ held. held ≡ before ++ bytes.now)) }
-    ensures any_moment { LeavesOnly D.moment D.images_since disk.old disk.new (IsElsewhereOld file (D.images disk.old)) }
-    ensures elsewhere { IsElsewhereUnchanged file (D.seen disk.old) (D.seen disk.new) (D.sizes disk.old) (D.sizes disk.new) }
+    ensures told { OnOk result
+        ((before : List ℕ) → length before ≡ at → OnTold (D.seen disk.old file) (λ held. held ≡ before)
+        → OnTold (D.seen disk.new file) (λ held. held ≡ before ++ bytes.now)) }
+    ensures any_moment { LeavesOnly D.moment D.images_since disk.old disk.new
+        (IsElsewhereOld file (D.images disk.old)) }
+    ensures elsewhere { IsElsewhereUnchanged file (D.seen disk.old) (D.seen disk.new) (D.sizes disk.old)
+        (D.sizes disk.new) }
+    ensures stays_told { StaysTold (D.seen disk.old file) (D.seen disk.new file) }
     ensures cause { HasDiskCause (D.faults disk.old) (D.faults disk.new) result }
     ensures lasts { D.lasts disk.old disk.new }
     ensures failed { IsErrOf result DiskFault.Device → D.fails disk.old disk.new }
@@ -52,9 +63,15 @@ pub(crate) fn put_block<D: Disk>(
     requires growing { 0 < written → D.sizes disk.old file ≡ Some (BLOCK_BYTES * written) }
     requires short { length bytes.now ≤ BLOCK_BYTES }
     ensures size { OnOk result (D.sizes disk.new file ≡ Some (BLOCK_BYTES * written + length bytes.now)) }
-    ensures told { OnOk result ((before : List ℕ) → length before ≡ BLOCK_BYTES * written → (0 < written → OnTold (D.seen disk.old file) (λ held. held ≡ before)) → OnTold (D.seen disk.new file) (λ held. held ≡ before ++ bytes.now)) }
-    ensures any_moment { LeavesOnly D.moment D.images_since disk.old disk.new (IsElsewhereOld file (D.images disk.old)) }
-    ensures elsewhere { IsElsewhereUnchanged file (D.seen disk.old) (D.seen disk.new) (D.sizes disk.old) (D.sizes disk.new) }
+    ensures told { OnOk result
+        ((before : List ℕ) → length before ≡ BLOCK_BYTES * written
+        → (0 < written → OnTold (D.seen disk.old file) (λ held. held ≡ before))
+        → OnTold (D.seen disk.new file) (λ held. held ≡ before ++ bytes.now)) }
+    ensures any_moment { LeavesOnly D.moment D.images_since disk.old disk.new
+        (IsElsewhereOld file (D.images disk.old)) }
+    ensures elsewhere { IsElsewhereUnchanged file (D.seen disk.old) (D.seen disk.new) (D.sizes disk.old)
+        (D.sizes disk.new) }
+    ensures stays_told { StaysTold (D.seen disk.old file) (D.seen disk.new file) }
     ensures cause { HasDiskCause (D.faults disk.old) (D.faults disk.new) result }
     ensures lasts { D.lasts disk.old disk.new }
     ensures failed { IsErrOf result DiskFault.Device → D.fails disk.old disk.new }
@@ -74,10 +91,16 @@ pub(crate) fn put_end<D: Disk>(
     requires growing { 0 < written → D.sizes disk.old file ≡ Some (BLOCK_BYTES * written) }
     requires short { length bytes.now ≤ BLOCK_BYTES }
     ensures size { OnOk result (D.sizes disk.new file ≡ Some (BLOCK_BYTES * written + length bytes.now)) }
-    ensures told { OnOk result ((before : List ℕ) → length before ≡ BLOCK_BYTES * written → (0 < written → OnTold (D.seen disk.old file) (λ held. held ≡ before)) → OnTold (D.seen disk.new file) (λ held. held ≡ before ++ bytes.now)) }
+    ensures told { OnOk result
+        ((before : List ℕ) → length before ≡ BLOCK_BYTES * written
+        → (0 < written → OnTold (D.seen disk.old file) (λ held. held ≡ before))
+        → OnTold (D.seen disk.new file) (λ held. held ≡ before ++ bytes.now)) }
     ensures durable { OnOk result (IsDurable file (D.seen disk.new) (D.images disk.new)) }
-    ensures any_moment { LeavesOnly D.moment D.images_since disk.old disk.new (IsElsewhereOld file (D.images disk.old)) }
-    ensures elsewhere { IsElsewhereUnchanged file (D.seen disk.old) (D.seen disk.new) (D.sizes disk.old) (D.sizes disk.new) }
+    ensures any_moment { LeavesOnly D.moment D.images_since disk.old disk.new
+        (IsElsewhereOld file (D.images disk.old)) }
+    ensures elsewhere { IsElsewhereUnchanged file (D.seen disk.old) (D.seen disk.new) (D.sizes disk.old)
+        (D.sizes disk.new) }
+    ensures stays_told { StaysTold (D.seen disk.old file) (D.seen disk.new file) }
     ensures cause { HasDiskCause (D.faults disk.old) (D.faults disk.new) result }
     ensures lasts { D.lasts disk.old disk.new }
     ensures failed { IsErrOf result DiskFault.Device → D.fails disk.old disk.new }

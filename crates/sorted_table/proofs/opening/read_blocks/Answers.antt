@@ -17,6 +17,7 @@ whole-init g c =
       moment = started g.D.Disk.moment g.D.Disk.images_since c.args.disk.now (g.D.Disk.images c.args.disk.now) (g.met.D.Disk.only_now c.args.disk.now);
       lasting = g.met.D.Disk.lasts_here c.args.disk.now;
       quiet = refl;
+      asked = omega arith;
       changes = refl;
     }
 
@@ -41,5 +42,6 @@ whole-preserved g c =
       moment = both g.D.Disk.moment g.D.Disk.images_since c.args.disk.now c.whole.disk c.read_at.new.disk (g.D.Disk.images c.args.disk.now) (g.D.Disk.images c.whole.disk) (g.D.Disk.images c.args.disk.now) before.moment c.read_at.ensures.any_moment (λ image is. is) before.same.no_other;
       lasting = g.met.D.Disk.lasts_on _ _ _ before.lasting c.read_at.ensures.lasts;
       quiet = c.in_ok-read_at.ensures.cause.kept ∙ before.quiet;
+      asked = omega (arith, before.asked, c.read_at.ensures.asked);
       changes = c.read_at.ensures.changes ∙ before.changes;
     }

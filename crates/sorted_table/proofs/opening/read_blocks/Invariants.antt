@@ -1,4 +1,4 @@
-use Rattle.std.proofs.Common.{◌≡◌, ◌-◌, ◌≤◌, ◌*◌, ℕ}
+use Rattle.std.proofs.Common.{◌≡◌, ◌-◌, ◌≤◌, ◌+◌, ◌*◌, ℕ}
 use Rattle.mds_out.specs.Known.{OnTold}
 use Rattle.mds_out.specs.Disk.{IsUnchanged, AreSame, LeavesOnly}
 use Rattle.sorted_table.specs.Openings.{IsOpening, KeepsAtMost}
@@ -15,6 +15,7 @@ invariant-whole g l = record {
   moment : LeavesOnly g.D.Disk.moment g.D.Disk.images_since l.fn.disk l.disk (g.D.Disk.images l.fn.disk);
   lasting : g.D.Disk.lasts l.fn.disk l.disk;
   quiet : g.D.Disk.faults l.disk ≡ g.D.Disk.faults l.fn.disk;
+  asked : 4096 * g.D.Disk.asked l.disk ≤ 4096 * g.D.Disk.asked l.fn.disk + l.at;
   changes : g.D.Disk.changes_asked l.disk ≡ g.D.Disk.changes_asked l.fn.disk;
 }
 

@@ -1,49 +1,17 @@
-use Rattle.std.specs.Prelude.{MatchOption}
-use Rattle.std.proofs.Common.{◌≡◌, ◌∙◌, ◌+◌, ◌-◌, ◌*◌, ◌≤◌, ◌<◌, suc, ℕ, List, Option, Some, None, Ok, Err, length, take, drop, ap, subst, sym, refl, arith}
-use Rattle.std.specs.List.{slice_get}
+use Rattle.std.specs.Prelude.{IfOk}
+use Rattle.std.proofs.Common.{◌≡◌, Bool, false, List, subst}
 use Rattle.mds_base.specs.declared.row_key.RowKey.{RowKey}
 use Rattle.mds_out.specs.Known.{OnTold}
-use Rattle.sorted_table.specs.Tables.{TableState}
-use Rattle.sorted_table.specs.Looks.{IsThis}
-use Rattle.sorted_table.proofs.Looking.{Parts, told_at, seek_first, seek_found, seek_damage, copy_plain}
+use Rattle.sorted_table.specs.declared.table_row.TableRow.{TableRow}
+use Rattle.sorted_table.specs.Starts.{before_at, place_of}
+use Rattle.sorted_table.specs.TableRows.{row_behind, key_of}
+use Rattle.sorted_table.specs.Tables.{HoldsRows}
 use Rattle.sorted_table.proofs.table.Table.seek.Goals as goal
 
-pub returns-then-upto-eq0-clause-found : goal.returns-then-upto-eq0-clause-found
-returns-then-upto-eq0-clause-found g c =
-    let table = c.args.self.now in
-    let firsts : c.as_slice-firsts.result.now ≡ table.firsts = c.as_slice-firsts.ensures.value ∙ ap (λ (t : TableState). t.firsts) c.self.view_is in
-    let P : List RowKey → Type 0 = λ f. Parts c.args.key.now f c.blocks_upto-upto.result in
-    let Q : ℕ → Type 0 = λ n. Parts c.args.key.now table.firsts n in
-    let R : List RowKey → Type 0 = λ f. IsThis (slice_get f 0) c.first_of.result in
-    seek_first table c.args.key.now (g.D.Disk.seen c.args.disk.now table.file) c.first_of.result (subst Q c.if-upto-eq0.true (subst P firsts c.blocks_upto-upto.ensures.point)) (subst R firsts c.first_of.ensures.first)
-
-pub returns-in-Ok-clause-found : goal.returns-in-Ok-clause-found
-returns-in-Ok-clause-found g c =
-    let table = c.args.self.now in
-    let upto = c.blocks_upto-upto.result in
-    let firsts : c.as_slice-firsts.result.now ≡ table.firsts = c.as_slice-firsts.ensures.value ∙ ap (λ (t : TableState). t.firsts) c.self.view_is in
-    let file : c.self.inside.file ≡ table.file = ap (λ (t : TableState). t.file) c.self.view_is in
-    let next : upto ≡ suc (upto - 1) = omega (arith, c.if-upto-eq0.false) in
-    let P : List RowKey → Type 0 = λ f. Parts c.args.key.now f upto in
-    let Q : ℕ → Type 0 = λ n. Parts c.args.key.now table.firsts n in
-    let R : List RowKey → Type 0 = λ f. MatchOption c.in-Ok.found (IsThis (slice_get f upto) c.found_or.result) (λ k. c.found_or.result ≡ Ok (Some k)) in
-    let S : ℕ → Type 0 = λ n. MatchOption c.in-Ok.found (IsThis (slice_get table.firsts n) c.found_or.result) (λ k. c.found_or.result ≡ Ok (Some k)) in
-    seek_found table c.args.key.now (g.D.Disk.seen c.args.disk.now table.file) c.bytes.result.now (upto - 1) c.in-Ok.found c.found_or.result (subst Q next (subst P firsts c.blocks_upto-upto.ensures.point)) (omega (arith, next, c.blocks_upto-upto.ensures.bound, ap length firsts))
-    (told_at (g.D.Disk.seen c.args.disk.now) c.self.inside.file table.file c.read_block.new.frame.bytes c.bytes.result.now (λ bytes. take 4096 (drop (4096 * (upto - 1)) bytes)) file c.bytes.ensures.bytes c.in_ok-read_block.ensures.bytes)
-    c.in-Ok.ensures.found (subst S next (subst R firsts c.found_or.ensures.found))
-
-pub returns-in-Ok-clause-answer : goal.returns-in-Ok-clause-answer
-returns-in-Ok-clause-answer g c = copy_plain (g.D.Disk.seen c.args.disk.now c.args.self.now.file) c.found_or.result c.found_or.ensures.plain
-
-pub returns-in-Err-clause-answer : goal.returns-in-Err-clause-answer
-returns-in-Err-clause-answer g c =
-    let table = c.args.self.now in
-    let upto = c.blocks_upto-upto.result in
-    let firsts : c.as_slice-firsts.result.now ≡ table.firsts = c.as_slice-firsts.ensures.value ∙ ap (λ (t : TableState). t.firsts) c.self.view_is in
-    let file : c.self.inside.file ≡ table.file = ap (λ (t : TableState). t.file) c.self.view_is in
-    let next : upto ≡ suc (upto - 1) = omega (arith, c.if-upto-eq0.false) in
-    let P : List RowKey → Type 0 = λ f. Parts c.args.key.now f upto in
-    let Q : ℕ → Type 0 = λ n. Parts c.args.key.now table.firsts n in
-    seek_damage table c.args.key.now (g.D.Disk.seen c.args.disk.now table.file) c.bytes.result.now (upto - 1) (Err c.in-Err.fault) (subst Q next (subst P firsts c.blocks_upto-upto.ensures.point)) (omega (arith, next, c.blocks_upto-upto.ensures.bound, ap length firsts))
-    (told_at (g.D.Disk.seen c.args.disk.now) c.self.inside.file table.file c.read_block.new.frame.bytes c.bytes.result.now (λ bytes. take 4096 (drop (4096 * (upto - 1)) bytes)) file c.bytes.ensures.bytes c.in_ok-read_block.ensures.bytes)
-    c.in-Err.ensures.found c.requires.ready.told
+pub returns-clause-found : goal.returns-clause-found
+returns-clause-found g c =
+    let told = g.D.Disk.seen c.args.disk.now in
+    let F : RowKey → Bool → Type 0 = λ place past. IfOk c.seek_by.result (λ found. (rows : List TableRow) → HoldsRows c.args.self.now told rows → OnTold (told c.args.self.now.file) (λ _. found ≡ key_of (row_behind (before_at place past) rows))) in
+    let P : RowKey → Type 0 = λ place. F place false in
+    let Q : Bool → Type 0 = λ past. F (place_of c.at.result) past in
+    subst P c.at.ensures.place (subst Q c.at.ensures.past c.seek_by.ensures.found)

@@ -1,4 +1,0 @@
-use Rattle.sorted_table.proofs.table.key_at.Goals as goal
-
-pub returns-in_default-clause-found : goal.returns-in_default-clause-found
-returns-in_default-clause-found c = λ rows is. let never = rw c.in_default.is at c.block_from.ensures.from rows is in absurd cc
