@@ -1,7 +1,7 @@
 -- An append to the log in force.
 use Rattle.std.proofs.lemmas.Bool.{cases_eq}
 use Rattle.std.proofs.Common.{◌≡◌, ◌≢◌, inl, inr, ⊎_elim, ◌∙◌, sym, ap, subst, refl, ℕ, suc, ◌≤◌, ◌<◌, List, [], ◌∷◌, ◌++◌, length, Option, Some, None, Bool, true, false, arith}
-use Rattle.std.specs.Prelude.{IsSome, unwrap_or, slice_index_or}
+use Rattle.std.specs.Prelude.{⊤, IsSome, unwrap_or, slice_index_or}
 use Rattle.gate_log.specs.Log.{HoldsLog, IsBeforeOrAfter}
 use Rattle.gate_log.specs.LogState.{LogState, IsLogOf, HasBodies, IsElsewhereOld}
 use Rattle.gate_log.specs.LogState as logs
@@ -13,15 +13,22 @@ use Rattle.mds_out.specs.Known.{OnTold}
 use Rattle.root_slots.specs.Crash.{IsUnder}
 use Rattle.root_slots.specs.declared.root.Root.{Root}
 use Rattle.root_slots.specs.declared.root_slots.RootSlots.{RootSlots}
-use Rattle.root_slots.specs.Root.{is_root}
+use Rattle.root_slots.specs.Root.{is_root, files_of}
 use Rattle.root_slots.specs.Slot.{root_in}
 use Rattle.root_slots.specs.Slots as slots
 use Rattle.root_slots.proofs.Crashes.{names_no_zero, state_apart, tables_apart}
+use Rattle.row_store.specs.declared.merges.Pending.{Pending}
 use Rattle.row_store.specs.declared.row_store.InForce.{InForce}
+use Rattle.row_store.specs.Files.{named_by}
 use Rattle.row_store.specs.Store.{Kept, HoldsState, TellsAll, reading, StandsFor, with_body, IsCommitting}
 use Rattle.row_store.specs.declared.row_store.RowStore.{RowStore}
-use Rattle.row_store.specs.Value.{IsOpenOn, KeepsBy, Keeps, AreReady, IsAsNamed, IsRootReady, IsForceReady, IsReady}
+use Rattle.row_store.specs.Value.{IsOpenOn, KeepsBy, Keeps, AreReady, IsAsNamed, IsRootReady, IsForceReady, AreNumbered, IsMergeReady, IsReady}
+use Rattle.row_store.proofs.Apart.{fresh_among}
 use Rattle.row_store.proofs.Keeping.{AreSameIn, files_of_tables, rows_on, stands, stands_with, named_state, named_tables}
+use Rattle.block_cache.specs.Blocks.{Blocks}
+use Rattle.row_store.specs.Caching.{AreCached}
+use Rattle.row_store.proofs.KeptBlocks.{cached_kept, cached_same}
+use Rattle.row_store.proofs.Pendings.{all_in, pending_kept}
 use Rattle.row_store.proofs.Told.{same_seen, tables_on, still_known, told_is, to_told, some_on, some_back, told_same}
 use Rattle.sorted_table.specs.Tables.{TableState, IsSomeTable}
 
@@ -185,8 +192,13 @@ module _ (store : RowStore) (root : Root) (log log' : LogState) (seen seen' : Co
   -- the disk is ready for the store
   pub ready_appended : ((crashed : Image) → images' crashed → IsElsewhereOld log.file images crashed) → log'.stopped ≡ false → logs.IsReady log' seen' sizes' images' → IsReady (with_log store root log') seen' sizes' images'
   ready_appended left running log_ready = record {
+    cached = cached_kept (λ file. file ≢ log.file) seen seen' elsewhere.bytes store.cache store.tables.items
+        (all_in (λ file. file ≢ log.file) store.tables.items (files_of_tables store.tables.items) refl tables_differ) ready.cached;
     frames = ready.frames;
     slots_run = ready.slots_run;
+    begun = ready.begun;
+    numbered = subst (AreNumbered store.slots) was ready.numbered;
+    merging = merging_now;
     slots = slots_on store.slots seen seen' sizes sizes' images images' (elsewhere.bytes 0 zero_apart) (elsewhere.lengths 0 zero_apart)
         (λ crashed now. ((left crashed now).before, (left crashed now).was, (left crashed now).others 0 zero_apart)) ready.slots;
     force = (force_ready.0, record { root = is; log_file = same_file ∙ log_file; log = record { running = running; ready = log_ready } });
@@ -202,6 +214,20 @@ module _ (store : RowStore) (root : Root) (log log' : LogState) (seen seen' : Co
       tables_differ : (k other : ℕ) → k < length (files_of_tables store.tables.items) → slice_index_or (files_of_tables store.tables.items) k other ≡ other → other ≢ log.file
       tables_differ = let P : List ℕ → Type 0 = λ files. (k other : ℕ) → k < length files → slice_index_or files k other ≡ other → other ≢ log.file in
           subst P (sym force_ready.0) (λ k other below at same. tables_apart root is k other below at (same ∙ log_file))
+
+      merge_before : IsMergeReady store.merge (files_of root) store.tables.items seen sizes
+      merge_before = subst (λ (force : Option InForce). IsMergeReady store.merge (named_by force) store.tables.items seen sizes) was ready.merging
+
+      pending_apart : (pending : Pending) → store.merge ≡ Some pending → pending.file ≢ log.file
+      pending_apart pending is_merge same =
+          let here : IsMergeReady (Some pending) (files_of root) store.tables.items seen sizes = subst (λ (m : Option Pending). IsMergeReady m (files_of root) store.tables.items seen sizes) is_merge merge_before in
+          fresh_among pending.file (files_of root) root.log_file here.apart (1, omega arith, refl) (sym (same ∙ log_file))
+
+      merging_now : IsMergeReady store.merge (files_of root) store.tables.items seen' sizes'
+      merging_now =
+          let kept : ℕ → Type 0 = λ file. file ≢ log.file in
+          pending_kept kept seen seen' sizes sizes' elsewhere.bytes elsewhere.lengths store.merge (files_of root) store.tables.items pending_apart
+          (all_in kept store.tables.items (files_of_tables store.tables.items) refl tables_differ) merge_before
 
       log_now : TellsAll seen' → (crashed : Image) → images' crashed → crashed root.log_file ≡ reading seen' root.log_file
       log_now tells crashed now = subst (λ (f : ℕ). crashed f ≡ reading seen' f) (same_file ∙ log_file) (log_left log' (seen' log'.file) images' crashed (tells log'.file) log_ready.told now)
@@ -246,12 +272,17 @@ force_on (Some force) open_tables seen seen' sizes sizes' images images' same fe
   },
 )
 
--- a store whose frames came back, on a disk on which nothing changed
-pub ready_same : (store : RowStore) (pool : Frames) (stopped : Bool) (seen seen' : Contents) (sizes sizes' : Lengths) (images images' : Image → Type 0) → IsUnchanged seen seen' sizes sizes' → ((image : Image) → images' image → images image)
-    → free_frames pool ≡ free_frames store.pool → IsReady store seen sizes images → IsReady (record store { pool = pool; stopped = stopped }) seen' sizes' images'
-ready_same store pool stopped seen seen' sizes sizes' images images' same fewer frames ready = record {
+-- a store whose frames came back, with other blocks kept, on a disk on which nothing changed
+pub ready_read : (store : RowStore) (pool : Frames) (cache : Option Blocks) (stopped : Bool) (seen seen' : Contents) (sizes sizes' : Lengths) (images images' : Image → Type 0) → IsUnchanged seen seen' sizes sizes' → ((image : Image) → images' image → images image)
+    → free_frames pool ≡ free_frames store.pool → AreCached cache store.tables.items seen' → IsReady store seen sizes images → IsReady (record store { pool = pool; cache = cache; stopped = stopped }) seen' sizes' images'
+ready_read store pool cache stopped seen seen' sizes sizes' images images' same fewer frames cached ready = record {
+  cached = cached;
   frames = omega (arith, frames, ready.frames);
   slots_run = ready.slots_run;
+  begun = ready.begun;
+  numbered = ready.numbered;
+  merging = pending_kept (λ _. ⊤) seen seen' sizes sizes' (λ file _. same.bytes file) (λ file _. same.lengths file) store.merge (named_by store.force) store.tables.items (λ pending _. tt)
+      (all_in (λ _. ⊤) store.tables.items (files_of_tables store.tables.items) refl (λ k file below at. tt)) ready.merging;
   slots = slots_on store.slots seen seen' sizes sizes' images images' (same.bytes 0) (same.lengths 0) (λ crashed now. (crashed, fewer crashed now, refl)) ready.slots;
   force = force_on store.force store.tables.items seen seen' sizes sizes' images images' same fewer ready.force;
   tables = tables_on store.tables.items seen seen' sizes sizes' same ready.tables;
@@ -260,11 +291,21 @@ ready_same store pool stopped seen seen' sizes sizes' images images' same fewer 
       subst P (sym (same_seen seen seen' sizes sizes' same)) (λ tells crashed now. ready.steady tells crashed (fewer crashed now));
 }
 
-pub keeps_same : (store : RowStore) (pool : Frames) (stopped : Bool) (seen seen' : Contents) (sizes sizes' : Lengths) (kept : Option Kept) (rows : RowMap) → IsUnchanged seen seen' sizes sizes' → Keeps store kept rows (reading seen)
-    → Keeps (record store { pool = pool; stopped = stopped }) kept rows (reading seen')
-keeps_same store pool stopped seen seen' sizes sizes' kept rows same keeps =
+-- with the same blocks kept
+pub ready_same : (store : RowStore) (pool : Frames) (stopped : Bool) (seen seen' : Contents) (sizes sizes' : Lengths) (images images' : Image → Type 0) → IsUnchanged seen seen' sizes sizes' → ((image : Image) → images' image → images image)
+    → free_frames pool ≡ free_frames store.pool → IsReady store seen sizes images → IsReady (record store { pool = pool; stopped = stopped }) seen' sizes' images'
+ready_same store pool stopped seen seen' sizes sizes' images images' same fewer frames ready =
+    ready_read store pool store.cache stopped seen seen' sizes sizes' images images' same fewer frames (cached_same seen seen' same.bytes store.cache store.tables.items ready.cached) ready
+
+pub keeps_read : (store : RowStore) (pool : Frames) (cache : Option Blocks) (stopped : Bool) (seen seen' : Contents) (sizes sizes' : Lengths) (kept : Option Kept) (rows : RowMap) → IsUnchanged seen seen' sizes sizes' → Keeps store kept rows (reading seen)
+    → Keeps (record store { pool = pool; cache = cache; stopped = stopped }) kept rows (reading seen')
+keeps_read store pool cache stopped seen seen' sizes sizes' kept rows same keeps =
     let P : Contents → Type 0 = λ s. KeepsBy store.force store.tables.items kept (reading s) in
     record { by = subst P (sym (same_seen seen seen' sizes sizes' same)) keeps.by; rows_are = keeps.rows_are }
+
+pub keeps_same : (store : RowStore) (pool : Frames) (stopped : Bool) (seen seen' : Contents) (sizes sizes' : Lengths) (kept : Option Kept) (rows : RowMap) → IsUnchanged seen seen' sizes sizes' → Keeps store kept rows (reading seen)
+    → Keeps (record store { pool = pool; stopped = stopped }) kept rows (reading seen')
+keeps_same store pool stopped = keeps_read store pool store.cache stopped
 
 -- no call at all leaves what was kept
 pub none_committing : {D : Type 0} (moment : D → ℕ) (since : D → ℕ → Image → Type 0) (disk : D) (store : RowStore) (seen : Contents) (sizes : Lengths) (images : Image → Type 0) (body : List ℕ) → ((image : Image) → since disk (moment disk) image → images image)

@@ -1,5 +1,5 @@
 -- What is read of the log and of the state in force.
-use Rattle.std.proofs.Common.{◌≡◌, ◌∙◌, sym, ap, subst, refl, ℕ, ◌+◌, ◌<◌, List, [], ◌∷◌, ◌++◌, append_assoc, length, take, drop, Option, Some, None, Bool, true, false, Result, Err, arith}
+use Rattle.std.proofs.Common.{◌≡◌, ◌∙◌, sym, ap, subst, refl, ℕ, ◌+◌, ◌<◌, List, [], ◌∷◌, ◌++◌, append_assoc, length, take, drop, Option, Some, None, Bool, true, false, Err, arith}
 use Rattle.std.specs.Prelude.{IsSome, IfSome, MatchOption, unwrap_or}
 use Rattle.std.proofs.lemmas.List.{append-nil, length-append}
 use Rattle.gate_log.specs.Calls.{IsSomeGate, IsGateAt, IsReplayed}
@@ -24,7 +24,7 @@ use Rattle.row_store.specs.Damages.{IsRefusal, IsStateBad}
 use Rattle.row_store.specs.Store.{Kept, HoldsState, TellsAll, reading}
 use Rattle.row_store.specs.Value.{IsOpenOn, KeepsBy, Keeps, IsReady, HasRoot, IsReadUpTo, ReadsOn, state_of, stops_by}
 use Rattle.sorted_table.proofs.Verdicts.{md5_length}
-use Rattle.row_store.proofs.Appends.{with_log, keeps_same, ready_same}
+use Rattle.row_store.proofs.Appends.{keeps_same, ready_same}
 use Rattle.row_store.proofs.Told.{told_is, to_told}
 
 -- ---- bodies that are read

@@ -1,6 +1,6 @@
 -- Runs of calls of a store's disk, and refusals of its parts as its own.
-use Rattle.std.proofs.Common.{◌≡◌, ◌≢◌, ◌∙◌, refl, ap, ℕ, ◌≤◌, Option, Some, None, Result, Ok, Err, arith}
-use Rattle.std.specs.Prelude.{IsErrOf}
+use Rattle.std.proofs.Common.{◌≡◌, ◌≢◌, ◌∙◌, sym, subst, refl, ap, ℕ, ◌≤◌, Option, Some, None, Result, Ok, Err, arith}
+use Rattle.std.specs.Prelude.{IsErrOf, IsErrAnd}
 use Rattle.gate_log.specs.Disks.{HasLogCause}
 use Rattle.gate_log.specs.declared.gate_log.LogFault.{LogFault}
 use Rattle.gate_log.specs.declared.gate_log.LogFault.TheVariants as log
@@ -81,7 +81,7 @@ failed_table file table.OutOfMemory failed is = cc
 
 -- ---- one call after another
 
-known_on : (a b c : Option ℕ) → OnTold a (λ n. b ≡ Some n) → OnTold b (λ n. c ≡ Some n) → OnTold a (λ n. c ≡ Some n)
+pub known_on : (a b c : Option ℕ) → OnTold a (λ n. b ≡ Some n) → OnTold b (λ n. c ≡ Some n) → OnTold a (λ n. c ≡ Some n)
 known_on None b c first second = tt
 known_on (Some n) None c first second = cc
 known_on (Some n) (Some m) c first second = second ∙ first
@@ -92,7 +92,7 @@ unchanged_on seen seen' seen'' sizes sizes' sizes'' first second = record {
   lengths = λ file. known_on (sizes file) (sizes' file) (sizes'' file) (first.lengths file) (second.lengths file);
 }
 
-cause_on : {T U : Type 0} (a b c : ℕ) (done : U) (result : Result T StoreFault) → HasStoreCause {T = U} a b (Ok done) → HasStoreCause b c result → HasStoreCause a c result
+pub cause_on : {T U : Type 0} (a b c : ℕ) (done : U) (result : Result T StoreFault) → HasStoreCause {T = U} a b (Ok done) → HasStoreCause b c result → HasStoreCause a c result
 cause_on a b c done (Ok x) first second = cause_ok a c x (second.kept ∙ first.kept)
 cause_on a b c done (Err fault) first second = record {
   later = omega (arith, first.later, second.later);
@@ -130,6 +130,15 @@ reads_refused {T = T} {U = U} {faults = faults} {a = a} {b = b} {fault = fault} 
     same_refusal : (T U : Type 0) (fault : StoreFault) → refusal U fault ≡ refusal U Device → refusal T fault ≡ refusal T Device
     same_refusal T U fault is = let same : fault ≡ Device = cc in ap (refusal T) same
 
+-- the same of an answer that is known to be the refusal
+pub reads_passed : {D T U : Type 0} {seen : D → Contents} {sizes : D → Lengths} {images : D → Image → Type 0} {moment : D → ℕ} {since : D → ℕ → Image → Type 0} {faults : D → ℕ} {lasts fails : D → D → Type 0}
+    {a b : D} {fault : StoreFault} → IsStoreReading {T = T} seen sizes images moment since faults lasts fails a b (Err fault) → (result : Result U StoreFault) → IsErrAnd result (λ x. x ≡ fault)
+    → IsStoreReading {T = U} seen sizes images moment since faults lasts fails a b result
+reads_passed is (Ok x) other = absurd other
+reads_passed {T = T} {U = U} {seen = seen} {sizes = sizes} {images = images} {moment = moment} {since = since} {faults = faults} {lasts = lasts} {fails = fails} {a = a} {b = b} {fault = fault} is (Err x) other =
+    let P : StoreFault → Type 0 = λ f. IsStoreReading {T = U} seen sizes images moment since faults lasts fails a b (Err f) in
+    subst P (sym other) (reads_refused is)
+
 -- what a call that was done answers is a matter of its caller
 pub reads_as : {D T U : Type 0} {seen : D → Contents} {sizes : D → Lengths} {images : D → Image → Type 0} {moment : D → ℕ} {since : D → ℕ → Image → Type 0} {faults : D → ℕ} {lasts fails : D → D → Type 0}
     {a b : D} {done : U} → IsStoreReading seen sizes images moment since faults lasts fails a b (Ok done) → (result : Result T StoreFault) → (IsErrOf result Device → ⊥) → IsStoreReading seen sizes images moment since faults lasts fails a b result
@@ -145,6 +154,10 @@ reads_as {faults = faults} {a = a} {b = b} is result not_device = record {
     plain : {T : Type 0} (result : Result T StoreFault) → (IsErrOf result Device → ⊥) → HasStoreCause (faults a) (faults b) result
     plain (Ok x) none = cause_ok (faults a) (faults b) x is.cause.kept
     plain (Err fault) none = record { later = is.cause.later; device = λ device. absurd (none device); other = λ _. is.cause.kept; kept = tt }
+
+pub reads_ok : {D T U : Type 0} {seen : D → Contents} {sizes : D → Lengths} {images : D → Image → Type 0} {moment : D → ℕ} {since : D → ℕ → Image → Type 0} {faults : D → ℕ} {lasts fails : D → D → Type 0}
+    {a b : D} {done : U} → IsStoreReading seen sizes images moment since faults lasts fails a b (Ok done) → (x : T) → IsStoreReading {T = T} seen sizes images moment since faults lasts fails a b (Ok x)
+reads_ok is x = reads_as is (Ok x) (λ device. cc)
 
 -- ---- what one call leaves at each moment
 
@@ -176,3 +189,7 @@ reads_none {seen = seen} {sizes = sizes} {images = images} {moment = moment} {si
     plain : {T : Type 0} (result : Result T StoreFault) → (IsErrOf result Device → ⊥) → HasStoreCause (faults disk) (faults disk) result
     plain (Ok x) none = cause_ok (faults disk) (faults disk) x refl
     plain (Err fault) none = record { later = omega arith; device = λ device. absurd (none device); other = λ _. refl; kept = tt }
+
+pub reads_here : {D T : Type 0} {seen : D → Contents} {sizes : D → Lengths} {images : D → Image → Type 0} {moment : D → ℕ} {since : D → ℕ → Image → Type 0} {faults : D → ℕ} {lasts fails : D → D → Type 0} (disk : D) (x : T)
+    → ((image : Image) → since disk (moment disk) image → images disk image) → lasts disk disk → IsStoreReading {T = T} seen sizes images moment since faults lasts fails disk disk (Ok x)
+reads_here disk x only_now lasts_here = reads_none disk (Ok x) only_now lasts_here (λ device. cc)

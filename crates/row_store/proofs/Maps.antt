@@ -173,7 +173,7 @@ pub found_said : (base rows : RowMap) (entries : List (RowKey × Option Attr)) (
 found_said base rows entries key attr is said =
     sym (ap (λ (m : RowMap). map.get m key) is ∙ get-said base entries key ∙ ap (λ found. said_or found (map.get base key)) said)
 
-some_under : (force : Option InForce) (tables : List TableState) (kept : Option Kept) (image : Image) → KeepsBy force tables kept image → (rows : List (List TableRow)) × HaveRows tables rows image × (base_of kept ≡ rows_under rows)
+pub some_under : (force : Option InForce) (tables : List TableState) (kept : Option Kept) (image : Image) → KeepsBy force tables kept image → (rows : List (List TableRow)) × HaveRows tables rows image × (base_of kept ≡ rows_under rows)
 some_under None tables None image by = ([], subst (λ (t : List TableState). HaveRows t [] image) (sym by.1) tt, refl)
 some_under None tables (Some kept) image by = absurd by
 some_under (Some force) tables None image by = absurd by

@@ -28,15 +28,20 @@ use Rattle.root_slots.specs.declared.root_slots.RootSlots.{RootSlots}
 use Rattle.root_slots.specs.declared.root_slots.SlotDamage.TheVariants as slot
 use Rattle.root_slots.specs.Root.{is_root, files_of}
 use Rattle.root_slots.specs.Slot.{HasBadRoot, HasNoRoot, found_in, root_in}
-use Rattle.root_slots.specs.Slots.{IsKept, IsRead, IsReady as AreSlotsReady}
+use Rattle.root_slots.specs.declared.root_slots.Step.TheVariants.{Begun}
+use Rattle.root_slots.specs.Slots.{IsKept, IsRead, HasNumber, IsReady as AreSlotsReady}
 use Rattle.root_slots.proofs.Readings.{root_told, none_told}
+use Rattle.row_store.specs.Caching.{IsEmpty}
+use Rattle.row_store.proofs.KeptBlocks.{cached_empty}
 use Rattle.row_store.specs.Answers.{root_fault_of, log_fault_of, table_fault_of}
 use Rattle.row_store.specs.Damages.{IsState, IsStateBad, IsTable, IsTableBad, AreTables, IsFirstBad, IsLogBad, IsBadUnder, IsBad, IsRefusal}
+use Rattle.row_store.specs.declared.merges.Pending.{Pending}
 use Rattle.row_store.specs.declared.row_store.InForce.{InForce}
+use Rattle.row_store.specs.Files.{named_by}
 use Rattle.row_store.specs.declared.row_store.RowStore.{RowStore}
 use Rattle.row_store.specs.Rows.{rows_under, laid_over, rows_of}
 use Rattle.row_store.specs.Store.{Kept, TellsAll, reading, base_of}
-use Rattle.row_store.specs.Value.{IsNewStore, KeepsBy, Keeps, IsAsNamed, IsForceReady, IsReady, HaveRows, IsOpenOn, IsStateThere, IsTableOpen, AreOpen, AreReady, IsLogReady}
+use Rattle.row_store.specs.Value.{IsNewStore, KeepsBy, Keeps, IsAsNamed, IsForceReady, AreNumbered, IsMergeReady, IsReady, HaveRows, IsOpenOn, IsStateThere, IsTableOpen, AreOpen, AreReady, IsLogReady}
 use Rattle.row_store.proofs.Keeping.{AreSameIn, files_of_tables, has_table}
 use Rattle.row_store.proofs.Appends.{log_left}
 use Rattle.row_store.proofs.Told.{ready_on, told_is}
@@ -252,10 +257,14 @@ root_bad root seen seen' file place wrong same in_force is =
 module _ (store : RowStore) (force : InForce) (seen : Contents) (sizes : Lengths) (images : Image → Type 0) (is : store.force ≡ Some force) (in_force : OnTold (seen 0) (λ file. root_in file ≡ Some force.root)) (slots : AreSlotsReady store.slots seen sizes images)
     (there : IsStateThere force.root.state seen images) (files : files_of_tables store.tables.items ≡ force.root.tables) (are : AreOpen store.tables.items seen sizes images) (log_file : force.log.file ≡ force.root.log_file) (ready : IsLogReady force.log seen sizes images)
     (fresh : store.fresh.entries ≡ []) where
-  pub ready_opened : 4 ≤ free_frames store.pool → store.slots.stopped ≡ false → is_root force.root ≡ true → IsReady store seen sizes images
-  ready_opened frames running root = record {
+  pub ready_opened : store.merge ≡ None → store.slots.step ≡ Begun → (store.slots.made ≡ true) × HasNumber store.slots.force force.root.number → 4 ≤ free_frames store.pool → store.slots.stopped ≡ false → is_root force.root ≡ true → IsEmpty store.cache → IsReady store seen sizes images
+  ready_opened none begun numbered frames running root empty = record {
+    cached = cached_empty store.cache empty store.tables.items seen;
     frames = frames;
     slots_run = running;
+    begun = begun;
+    numbered = subst (AreNumbered store.slots) (sym is) numbered;
+    merging = subst (λ (m : Option Pending). IsMergeReady m (named_by store.force) store.tables.items seen sizes) (sym none) tt;
     slots = slots;
     force = subst (λ (f : Option InForce). IsForceReady f store.tables.items seen sizes images) (sym is) (files, record { root = root; log_file = log_file; log = ready });
     tables = are_ready store.tables.items seen sizes images are;
@@ -275,10 +284,14 @@ module _ (store : RowStore) (force : InForce) (seen : Contents) (sizes : Lengths
       )
 
 module _ (pool : Frames) (value : RootSlots) (store : RowStore) (new : IsNewStore pool value store) (seen : Contents) (sizes : Lengths) (images : Image → Type 0) (slots : AreSlotsReady value seen sizes images) where
-  pub ready_new : 4 ≤ free_frames pool → value.stopped ≡ false → IsReady store seen sizes images
-  ready_new frames running = record {
+  pub ready_new : value.step ≡ Begun → (value.force ≡ None) × (value.spare_open ≡ false) → 4 ≤ free_frames pool → value.stopped ≡ false → IsReady store seen sizes images
+  ready_new begun numbered frames running = record {
+    cached = cached_empty store.cache new.cache store.tables.items seen;
     frames = subst (λ (p : Frames). 4 ≤ free_frames p) (sym new.frames) frames;
     slots_run = subst (λ (s : RootSlots). s.stopped ≡ false) (sym new.slots_are) running;
+    begun = subst (λ (s : RootSlots). s.step ≡ Begun) (sym new.slots_are) begun;
+    numbered = subst (AreNumbered store.slots) (sym new.force) (subst (λ (s : RootSlots). AreNumbered s None) (sym new.slots_are) numbered);
+    merging = subst (λ (m : Option Pending). IsMergeReady m (named_by store.force) store.tables.items seen sizes) (sym new.merge) tt;
     slots = subst (λ (s : RootSlots). AreSlotsReady s seen sizes images) (sym new.slots_are) slots;
     force = subst (λ (f : Option InForce). IsForceReady f store.tables.items seen sizes images) (sym new.force) new.tables;
     tables = subst (λ (t : List TableState). AreReady t seen sizes) (sym new.tables) tt;

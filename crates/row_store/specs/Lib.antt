@@ -1,5 +1,13 @@
 pub mod Rows
 pub mod Store
+pub mod Files
 pub mod Damages
 pub mod Answers
+pub mod Caching
 pub mod Value
+pub mod Leaving
+pub mod Parts
+pub mod RootSteps
+pub mod Steps
+pub mod Turning
+pub mod Seeks

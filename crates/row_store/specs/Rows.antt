@@ -23,8 +23,8 @@ changed_all rows (change ∷ changes) = changed_all (with_row rows change.key ch
 abbrev pub AreMarked : List Change → Type 0
 AreMarked = AllByRecursion (λ change. IsMarked change.attr)
 
--- A table over older rows: its rows take their places, and its tombstones take them away. No two rows of a table have one
--- key.
+-- A table over older rows: its rows take their places, and its tombstones take them away. No two rows of a table have
+-- one key.
 abbrev pub laid_over : RowMap → List TableRow → RowMap
 laid_over older [] = older
 laid_over older (row ∷ rows) = with_row (laid_over older rows) row.key row.attr

@@ -23,7 +23,8 @@ reading seen file = unwrap_or (seen file) []
 
 -- ---- on whole files
 
--- What a store keeps: its base, which is the map at its last flush, the state given then, and the bodies committed since.
+-- What a store keeps: its base, which is the map at its last flush, the state given then, and the bodies committed
+-- since.
 pub record Kept : Type 0 where
   pub base : RowMap
   pub state : List ℕ

@@ -13,7 +13,8 @@ pub(crate) fn length_of<D: Disk>(disk: &mut D, file: u32) -> Result<u64, StoreFa
     ensures size { IfOk result (λ size. D.sizes disk.new file ≡ Some size) }
     ensures short { IfOk result (λ size. size < 2 ^ 63) }
     ensures refused { IfErr result (λ fault. fault ≡ Device) }
-    ensures call { IsStoreReading D.seen D.sizes D.images D.moment D.images_since D.faults D.lasts D.fails disk.old disk.new result }
+    ensures call { IsStoreReading D.seen D.sizes D.images D.moment D.images_since D.faults D.lasts D.fails disk.old
+        disk.new result }
 {
     match disk.length(file) {
         Ok(size) => Ok(size),
@@ -31,7 +32,8 @@ pub(crate) fn read_front<D: Disk>(
     requires within { OnTold (D.sizes disk.old file) (λ size. length into.old ≤ size) }
     ensures bytes { OnOk result (OnTold (D.seen disk.old file) (λ bytes. into.new ≡ take (length into.old) bytes)) }
     ensures refused { IfErr result (λ fault. fault ≡ Device) }
-    ensures call { IsStoreReading D.seen D.sizes D.images D.moment D.images_since D.faults D.lasts D.fails disk.old disk.new result }
+    ensures call { IsStoreReading D.seen D.sizes D.images D.moment D.images_since D.faults D.lasts D.fails disk.old
+        disk.new result }
 {
     match disk.read(file, 0, into) {
         Ok(()) => Ok(()),
@@ -41,9 +43,11 @@ pub(crate) fn read_front<D: Disk>(
 
 /// After it a crash leaves of the file what a read gives.
 pub(crate) fn sync_file<D: Disk>(disk: &mut D, file: u32) -> Result<(), StoreFault>
-    ensures durable { OnOk result (OnTold (D.seen disk.new file) (λ bytes. (image : Image) → D.images disk.new image → image file ≡ bytes)) }
+    ensures durable { OnOk result
+        (OnTold (D.seen disk.new file) (λ bytes. (image : Image) → D.images disk.new image → image file ≡ bytes)) }
     ensures refused { IfErr result (λ fault. (fault ≡ Device) ⊎ (fault ≡ OutOfMemory)) }
-    ensures call { IsStoreReading D.seen D.sizes D.images D.moment D.images_since D.faults D.lasts D.fails disk.old disk.new result }
+    ensures call { IsStoreReading D.seen D.sizes D.images D.moment D.images_since D.faults D.lasts D.fails disk.old
+        disk.new result }
 {
     match disk.sync(file) {
         Ok(()) => Ok(()),

@@ -24,13 +24,13 @@ pub(crate) fn of_root(fault: RootFault) -> StoreFault
         RootFault::Device => StoreFault::Device,
         RootFault::Stopped => StoreFault::Stopped,
         RootFault::Bad {
-            place,
+            offset,
             damage: SlotDamage::Spelling,
-        } => damaged(0, place, Damage::Spelling),
+        } => damaged(0, offset, Damage::Spelling),
         RootFault::Bad {
-            place,
+            offset,
             damage: SlotDamage::Sum { kept, found },
-        } => damaged(0, place, Damage::Sum { kept, found }),
+        } => damaged(0, offset, Damage::Sum { kept, found }),
         RootFault::OutOfMemory => StoreFault::OutOfMemory,
     }
 }
@@ -41,7 +41,7 @@ pub(crate) fn of_log(file: u32, fault: LogFault) -> StoreFault
     match fault {
         LogFault::Device => StoreFault::Device,
         LogFault::Stopped => StoreFault::Stopped,
-        LogFault::BadLog { place } => damaged(file, place, Damage::Spelling),
+        LogFault::BadLog { offset } => damaged(file, offset, Damage::Spelling),
         LogFault::OutOfMemory => StoreFault::OutOfMemory,
     }
 }
@@ -52,23 +52,23 @@ pub(crate) fn of_table(file: u32, fault: TableFault) -> StoreFault
     match fault {
         TableFault::Device => StoreFault::Device,
         TableFault::Damaged {
-            place,
+            offset,
             damage: TableDamage::Spelling,
-        } => damaged(file, place, Damage::Spelling),
+        } => damaged(file, offset, Damage::Spelling),
         TableFault::Damaged {
-            place,
+            offset,
             damage: TableDamage::Sum { kept, found },
-        } => damaged(file, place, Damage::Sum { kept, found }),
+        } => damaged(file, offset, Damage::Sum { kept, found }),
         TableFault::OutOfMemory => StoreFault::OutOfMemory,
     }
 }
 
-fn damaged(file: u32, place: u64, damage: Damage) -> StoreFault
-    ensures { result ≡ StoreFault.Damaged file place damage }
+fn damaged(file: u32, offset: u64, damage: Damage) -> StoreFault
+    ensures { result ≡ StoreFault.Damaged file offset damage }
 {
     StoreFault::Damaged {
         file,
-        place,
+        offset,
         damage,
     }
 }

@@ -20,9 +20,14 @@ pub(crate) fn apply(
     changes: &[Change],
 ) -> Result<(), AllocError>
     requires { AreMarked changes.now }
-    ensures ok { OnOk result ((base : RowMap) → laid_over base (rows_of fresh.new.entries) ≡ changed_all (laid_over base (rows_of fresh.old.entries)) changes.now) }
-    ensures err { OnErr result ((key : RowKey) → tree.get row_key_cmp fresh.new key ≡ tree.get row_key_cmp fresh.old key) }
-    ensures marked { ((key : RowKey) → IfSome (tree.get row_key_cmp fresh.old key) IsMarked) → (key : RowKey) → IfSome (tree.get row_key_cmp fresh.new key) IsMarked }
+    ensures ok { OnOk result
+        ((base : RowMap)
+        → laid_over base (rows_of fresh.new.entries)
+        ≡ changed_all (laid_over base (rows_of fresh.old.entries)) changes.now) }
+    ensures err { OnErr result
+        ((key : RowKey) → tree.get row_key_cmp fresh.new key ≡ tree.get row_key_cmp fresh.old key) }
+    ensures marked { ((key : RowKey) → IfSome (tree.get row_key_cmp fresh.old key) IsMarked) → (key : RowKey)
+        → IfSome (tree.get row_key_cmp fresh.new key) IsMarked }
 {
     match changes {
         [] => Ok(()),
@@ -56,7 +61,10 @@ fn put(
     change: &Change,
 ) -> Result<Option<Option<Attr>>, AllocError>
     ensures before { IfOk result (λ before. before ≡ tree.get row_key_cmp fresh.old change.now.key) }
-    ensures said { OnOk result ((key : RowKey) → tree.get row_key_cmp fresh.new key ≡ cond (is_at (row_key_cmp change.now.key) key) (Some change.now.attr) (tree.get row_key_cmp fresh.old key)) }
+    ensures said { OnOk result
+        ((key : RowKey)
+        → tree.get row_key_cmp fresh.new key
+        ≡ cond (is_at (row_key_cmp change.now.key) key) (Some change.now.attr) (tree.get row_key_cmp fresh.old key)) }
     ensures there { OnOk result (tree.get row_key_cmp fresh.new change.now.key ≡ Some change.now.attr) }
     ensures err { OnErr result (fresh.new.entries ≡ fresh.old.entries) }
 {
@@ -68,7 +76,9 @@ fn put(
 // Says of a key again what was said before.
 fn take_back(fresh: &mut BTreeMap<RowKey, Option<Attr>>, key: &RowKey, before: Option<Option<Attr>>)
     requires { IsSome (tree.get row_key_cmp fresh.old key.now) }
-    ensures { (q : RowKey) → tree.get row_key_cmp fresh.new q ≡ cond (is_at (row_key_cmp key.now) q) before (tree.get row_key_cmp fresh.old q) }
+    ensures { (q : RowKey)
+        → tree.get row_key_cmp fresh.new q
+        ≡ cond (is_at (row_key_cmp key.now) q) before (tree.get row_key_cmp fresh.old q) }
 {
     match before {
         None => {
@@ -80,7 +90,9 @@ fn take_back(fresh: &mut BTreeMap<RowKey, Option<Attr>>, key: &RowKey, before: O
 
 fn say_again(fresh: &mut BTreeMap<RowKey, Option<Attr>>, key: &RowKey, attr: Option<Attr>)
     requires { IsSome (tree.get row_key_cmp fresh.old key.now) }
-    ensures { (q : RowKey) → tree.get row_key_cmp fresh.new q ≡ cond (is_at (row_key_cmp key.now) q) (Some attr) (tree.get row_key_cmp fresh.old q) }
+    ensures { (q : RowKey)
+        → tree.get row_key_cmp fresh.new q
+        ≡ cond (is_at (row_key_cmp key.now) q) (Some attr) (tree.get row_key_cmp fresh.old q) }
 {
     if let Some(kept) = fresh.get_mut(key) {
         *kept = attr;

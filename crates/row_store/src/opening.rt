@@ -19,8 +19,9 @@ use root_slots::Root;
 use sorted_table::Table;
 use std::alloc::Global;
 
-/// Opens what a root names, through a frame of the pool: its tables, newest first, and its log. `Damaged` comes with what is wrong first: the state's length and sum,
-/// a table, the gates of the log. Each file is synced before it is looked at.
+/// Opens what a root names, through a frame of the pool: its tables, newest first, and its log. `Damaged` comes with
+/// what is wrong first: the state's length and sum, a table, the gates of the log. Each file is synced before it is
+/// looked at.
 pub(crate) fn open_with<D: Disk>(
     alloc: Global,
     disk: &mut D,
@@ -35,9 +36,12 @@ pub(crate) fn open_with<D: Disk>(
     ensures log { IfOk result (λ x. IsLogReady x.1 (D.seen disk.new) (D.sizes disk.new) (D.images disk.new)) }
     ensures short { IfOk result (λ x. x.1.length < 2 ^ 63) }
     ensures gate { IfOk result (λ x. OnTold (D.seen disk.new x.1.file) (IsSomeGate x.1 0)) }
-    ensures refused { IfErr result (IsRefusal (λ file place damage. TellsAll (D.seen disk.old) → IsBadUnder root.now file place damage (reading (D.seen disk.old)))) }
+    ensures refused { IfErr result
+        (IsRefusal (λ file offset damage. TellsAll (D.seen disk.old)
+        → IsBadUnder root.now file offset damage (reading (D.seen disk.old)))) }
     ensures frames { free_frames pool.new ≡ free_frames pool.old }
-    ensures call { IsStoreReading D.seen D.sizes D.images D.moment D.images_since D.faults D.lasts D.fails disk.old disk.new result }
+    ensures call { IsStoreReading D.seen D.sizes D.images D.moment D.images_since D.faults D.lasts D.fails disk.old
+        disk.new result }
 {
     let Some(mut frame) = pool.take() else {
         unreachable!()
@@ -61,9 +65,12 @@ fn open_under<D: Disk>(
     ensures log { IfOk result (λ x. IsLogReady x.1 (D.seen disk.new) (D.sizes disk.new) (D.images disk.new)) }
     ensures short { IfOk result (λ x. x.1.length < 2 ^ 63) }
     ensures gate { IfOk result (λ x. OnTold (D.seen disk.new x.1.file) (IsSomeGate x.1 0)) }
-    ensures refused { IfErr result (IsRefusal (λ file place damage. TellsAll (D.seen disk.old) → IsBadUnder root.now file place damage (reading (D.seen disk.old)))) }
+    ensures refused { IfErr result
+        (IsRefusal (λ file offset damage. TellsAll (D.seen disk.old)
+        → IsBadUnder root.now file offset damage (reading (D.seen disk.old)))) }
     ensures frame { frame.new.number ≡ frame.old.number }
-    ensures call { IsStoreReading D.seen D.sizes D.images D.moment D.images_since D.faults D.lasts D.fails disk.old disk.new result }
+    ensures call { IsStoreReading D.seen D.sizes D.images D.moment D.images_since D.faults D.lasts D.fails disk.old
+        disk.new result }
 {
     see_state(alloc, disk, root.state)?;
     let tables = open_tables(alloc, disk, frame, root.tables.files())?;
@@ -74,8 +81,10 @@ fn open_under<D: Disk>(
 // Looks at the length and the sum of a state.
 fn see_state<D: Disk>(alloc: Global, disk: &mut D, file: u32) -> Result<(), StoreFault>
     ensures state { OnOk result (IsStateThere file (D.seen disk.new) (D.images disk.new)) }
-    ensures refused { IfErr result (IsRefusal (λ bad place damage. (bad ≡ file) × OnTold (D.seen disk.old file) (IsStateBad place damage))) }
-    ensures call { IsStoreReading D.seen D.sizes D.images D.moment D.images_since D.faults D.lasts D.fails disk.old disk.new result }
+    ensures refused { IfErr result
+        (IsRefusal (λ bad offset damage. (bad ≡ file) × OnTold (D.seen disk.old file) (IsStateBad offset damage))) }
+    ensures call { IsStoreReading D.seen D.sizes D.images D.moment D.images_since D.faults D.lasts D.fails disk.old
+        disk.new result }
 {
     sync_file(disk, file)?;
     let mut state = Vec::new(alloc);
@@ -89,10 +98,14 @@ fn open_tables<D: Disk>(
     files: &[u32],
 ) -> Result<Vec<Table>, StoreFault>
     ensures files { IfOk result (λ tables. map (λ table. table.file) tables.items ≡ files.now) }
-    ensures tables { IfOk result (λ tables. AreOpen tables.items (D.seen disk.new) (D.sizes disk.new) (D.images disk.new)) }
-    ensures refused { IfErr result (IsRefusal (λ file place damage. TellsAll (D.seen disk.old) → IsFirstBad files.now file place damage (reading (D.seen disk.old)))) }
+    ensures tables { IfOk result
+        (λ tables. AreOpen tables.items (D.seen disk.new) (D.sizes disk.new) (D.images disk.new)) }
+    ensures refused { IfErr result
+        (IsRefusal (λ file offset damage. TellsAll (D.seen disk.old)
+        → IsFirstBad files.now file offset damage (reading (D.seen disk.old)))) }
     ensures frame { frame.new.number ≡ frame.old.number }
-    ensures call { IsStoreReading D.seen D.sizes D.images D.moment D.images_since D.faults D.lasts D.fails disk.old disk.new result }
+    ensures call { IsStoreReading D.seen D.sizes D.images D.moment D.images_since D.faults D.lasts D.fails disk.old
+        disk.new result }
 {
     let mut tables = Vec::new(alloc);
     match open_more(alloc, disk, frame, files, &mut tables) {
@@ -110,11 +123,15 @@ fn open_more<D: Disk>(
     tables: &mut Vec<Table>,
 ) -> Result<(), StoreFault>
     requires { AreOpen tables.old.items (D.seen disk.old) (D.sizes disk.old) (D.images disk.old) }
-    ensures files { OnOk result (map (λ table. table.file) tables.new.items ≡ map (λ table. table.file) tables.old.items ++ files.now) }
+    ensures files { OnOk result
+        (map (λ table. table.file) tables.new.items ≡ map (λ table. table.file) tables.old.items ++ files.now) }
     ensures tables { OnOk result (AreOpen tables.new.items (D.seen disk.new) (D.sizes disk.new) (D.images disk.new)) }
-    ensures refused { IfErr result (IsRefusal (λ file place damage. TellsAll (D.seen disk.old) → IsFirstBad files.now file place damage (reading (D.seen disk.old)))) }
+    ensures refused { IfErr result
+        (IsRefusal (λ file offset damage. TellsAll (D.seen disk.old)
+        → IsFirstBad files.now file offset damage (reading (D.seen disk.old)))) }
     ensures frame { frame.new.number ≡ frame.old.number }
-    ensures call { IsStoreReading D.seen D.sizes D.images D.moment D.images_since D.faults D.lasts D.fails disk.old disk.new result }
+    ensures call { IsStoreReading D.seen D.sizes D.images D.moment D.images_since D.faults D.lasts D.fails disk.old
+        disk.new result }
 {
     match files {
         [] => Ok(()),
@@ -134,9 +151,11 @@ fn open_table<D: Disk>(
 ) -> Result<Table, StoreFault>
     ensures file { IfOk result (λ table. table.file ≡ file) }
     ensures table { IfOk result (λ table. IsTableOpen table (D.seen disk.new) (D.sizes disk.new) (D.images disk.new)) }
-    ensures refused { IfErr result (IsRefusal (λ bad place damage. (bad ≡ file) × OnTold (D.seen disk.old file) (IsTableBad place damage))) }
+    ensures refused { IfErr result
+        (IsRefusal (λ bad offset damage. (bad ≡ file) × OnTold (D.seen disk.old file) (IsTableBad offset damage))) }
     ensures frame { frame.new.number ≡ frame.old.number }
-    ensures call { IsStoreReading D.seen D.sizes D.images D.moment D.images_since D.faults D.lasts D.fails disk.old disk.new result }
+    ensures call { IsStoreReading D.seen D.sizes D.images D.moment D.images_since D.faults D.lasts D.fails disk.old
+        disk.new result }
 {
     sync_file(disk, file)?;
     match Table::open_file(alloc, disk, frame, file) {
@@ -150,8 +169,10 @@ fn open_log<D: Disk>(disk: &mut D, file: u32) -> Result<GateLog, StoreFault>
     ensures log { IfOk result (λ log. IsLogReady log (D.seen disk.new) (D.sizes disk.new) (D.images disk.new)) }
     ensures short { IfOk result (λ log. log.length < 2 ^ 63) }
     ensures gate { IfOk result (λ log. OnTold (D.seen disk.new log.file) (IsSomeGate log 0)) }
-    ensures refused { IfErr result (IsRefusal (λ bad place damage. (bad ≡ file) × OnTold (D.seen disk.old file) (IsLogBad place damage))) }
-    ensures call { IsStoreReading D.seen D.sizes D.images D.moment D.images_since D.faults D.lasts D.fails disk.old disk.new result }
+    ensures refused { IfErr result
+        (IsRefusal (λ bad offset damage. (bad ≡ file) × OnTold (D.seen disk.old file) (IsLogBad offset damage))) }
+    ensures call { IsStoreReading D.seen D.sizes D.images D.moment D.images_since D.faults D.lasts D.fails disk.old
+        disk.new result }
 {
     match GateLog::open_file(disk, file) {
         Ok(log) => Ok(log),

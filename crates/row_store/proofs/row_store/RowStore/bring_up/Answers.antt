@@ -7,7 +7,7 @@ use Rattle.root_slots.specs.declared.root.Root.{Root}
 use Rattle.root_slots.specs.declared.root_slots.RootFault.{RootFault}
 use Rattle.root_slots.specs.declared.root_slots.RootSlots.{RootSlots}
 use Rattle.root_slots.specs.Slot.{found_in}
-use Rattle.root_slots.specs.Slots.{IsRead}
+use Rattle.root_slots.specs.Slots.{IsRead, IsAsRead}
 use Rattle.row_store.specs.Answers.{IsStoreReading}
 use Rattle.row_store.specs.Damages.{IsBad, IsRefusal}
 use Rattle.row_store.specs.Store.{TellsAll, reading}
@@ -21,10 +21,14 @@ open_on-requires-clause-in_force g c =
     root_read (g.D.Disk.seen c.args.disk.now 0) (g.D.Disk.seen c.read.new.disk 0) c.read.result c.in-Ok-default-Some.slots c.in-Ok-default-Some.field-0-1 c.in-Ok-default-Some.root (c.read.ensures.unchanged.bytes 0)
     c.in-Ok-default-Some.is c.in-Ok-default-Some.field-0-1-is c.read.ensures.read
 
+pub open_on-requires-clause-numbered : goal.open_on-requires-clause-numbered
+open_on-requires-clause-numbered g c = subst (IsAsRead c.in-Ok-default-Some.slots) c.in-Ok-default-Some.field-0-1-is c.in-Ok-default-Some.ensures.value
+
 pub returns-in-Ok-default-None-clause-ready : goal.returns-in-Ok-default-None-clause-ready
 returns-in-Ok-default-None-clause-ready g c =
     let frames : 4 ≤ free_frames c.in_ok-pool.pool = first_of (search rules, grind (arith, common_steps)) in
-    ready_new c.in_ok-pool.pool c.in-Ok-default-None.slots c.of.result c.of.ensures (g.D.Disk.seen c.read.new.disk) (g.D.Disk.sizes c.read.new.disk) (g.D.Disk.images c.read.new.disk) c.in-Ok-default-None.ensures.ready frames c.in-Ok-default-None.ensures.begun.1
+    ready_new c.in_ok-pool.pool c.in-Ok-default-None.slots c.of.result c.of.ensures (g.D.Disk.seen c.read.new.disk) (g.D.Disk.sizes c.read.new.disk) (g.D.Disk.images c.read.new.disk) c.in-Ok-default-None.ensures.ready c.in-Ok-default-None.ensures.begun.0
+    (subst (IsAsRead c.in-Ok-default-None.slots) c.in-Ok-default-None.field-0-1-is c.in-Ok-default-None.ensures.value) frames c.in-Ok-default-None.ensures.begun.1
 
 pub returns-in-Ok-default-None-clause-kept : goal.returns-in-Ok-default-None-clause-kept
 returns-in-Ok-default-None-clause-kept g c =
@@ -53,7 +57,7 @@ returns-in-Ok-default-Some-clause-call g c =
 
 pub returns-in-Err-clause-refused : goal.returns-in-Err-clause-refused
 returns-in-Err-clause-refused g c =
-    let P : ℕ → ℕ → Damage → Type 0 = λ file place wrong. TellsAll (g.D.Disk.seen c.args.disk.now) → IsBad file place wrong (reading (g.D.Disk.seen c.args.disk.now)) in
+    let P : ℕ → ℕ → Damage → Type 0 = λ file offset wrong. TellsAll (g.D.Disk.seen c.args.disk.now) → IsBad file offset wrong (reading (g.D.Disk.seen c.args.disk.now)) in
     let Q : Result (RootSlots × Option Root) RootFault → Type 0 = λ r. OnTold (g.D.Disk.seen c.args.disk.now 0) (λ file. IsRead (found_in file) r) in
     let Fault : RootFault → Result (RootSlots × Option Root) RootFault = λ f. Err f in
     subst (IsRefusal P) (sym c.of_root.ensures)

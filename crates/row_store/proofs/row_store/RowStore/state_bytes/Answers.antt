@@ -1,8 +1,6 @@
 use Rattle.std.proofs.Common.{◌≡◌, ◌∙◌, sym, ap, subst, refl}
-use Rattle.mds_base.specs.declared.store_fault.StoreFault.{StoreFault}
 use Rattle.mds_out.specs.Known.{OnTold}
 use Rattle.row_store.specs.declared.row_store.RowStore.{RowStore}
-use Rattle.row_store.specs.declared.row_store.InForce.{InForce}
 use Rattle.row_store.specs.Damages.{IsStateBad, IsRefusal}
 use Rattle.row_store.specs.Store.{HoldsState, reading}
 use Rattle.row_store.specs.Value.{Keeps, IsReady, stops_by, state_of}
@@ -29,7 +27,7 @@ returns-in-Ok-clause-ready g c = λ running.
 
 pub returns-in-Err-clause-refused : goal.returns-in-Err-clause-refused
 returns-in-Err-clause-refused g c = λ running.
-    let P : ℕ → Type 0 = λ file. IsRefusal (λ bad place wrong. (bad ≡ file) × OnTold (g.D.Disk.seen c.args.disk.now file) (IsStateBad place wrong)) c.in-Err.fault in
+    let P : ℕ → Type 0 = λ file. IsRefusal (λ bad offset wrong. (bad ≡ file) × OnTold (g.D.Disk.seen c.args.disk.now file) (IsStateBad offset wrong)) c.in-Err.fault in
     state_refused c.args.self.now (g.D.Disk.seen c.args.disk.now) c.in-Err.fault c.requires.root (subst P c.state_file-file.ensures c.in-Err.ensures.refused)
 
 pub returns-in-Err-clause-kept : goal.returns-in-Err-clause-kept
