@@ -14,33 +14,40 @@ pub(crate) fn damages<D: Disk>(alloc: Global, disk: &mut D, frame: &mut Frame, f
 {
     let size = disk.length(file)?;
     let mut named: u64 = 0;
-    for place in 0..size {
-        let byte = byte_at(disk, file, place)?;
-        put_byte(disk, file, place, byte ^ 1)?;
+    for offset in 0..size {
+        let byte = byte_at(disk, file, offset)?;
+        put_byte(disk, file, offset, byte ^ 1)?;
         if is_damaged(alloc, disk, frame, file)? {
             named += 1;
         }
-        put_byte(disk, file, place, byte)?;
+        put_byte(disk, file, offset, byte)?;
     }
     Ok(format!(in alloc; "{named} of {size}")?)
 }
 
-fn byte_at<D: Disk>(disk: &mut D, file: u32, place: u64) -> Result<u8, RowFault> {
+/// A byte of a file.
+pub(crate) fn byte_at<D: Disk>(disk: &mut D, file: u32, offset: u64) -> Result<u8, RowFault> {
     let size = disk.length(file)?;
-    if place >= size {
+    if offset >= size {
         return Err(RowFault::Refused);
     }
     let mut byte = [0; 1];
-    disk.read(file, place, &mut byte)?;
+    disk.read(file, offset, &mut byte)?;
     Ok(byte[0])
 }
 
-fn put_byte<D: Disk>(disk: &mut D, file: u32, place: u64, byte: u8) -> Result<(), RowFault> {
+/// Writes a byte of a file.
+pub(crate) fn put_byte<D: Disk>(
+    disk: &mut D,
+    file: u32,
+    offset: u64,
+    byte: u8,
+) -> Result<(), RowFault> {
     let size = disk.length(file)?;
-    if place >= size {
+    if offset >= size {
         return Err(RowFault::Refused);
     }
-    disk.write_at(file, place, &[byte])?;
+    disk.write_at(file, offset, &[byte])?;
     Ok(())
 }
 

@@ -2,10 +2,15 @@
 //! `crates/rows/README.md` says what a row is.
 #![tactic(auto)]
 
+mod changed;
 mod damages;
+mod dumps;
+mod keeping;
 mod merges;
+mod pages;
 mod roots;
 mod store;
+mod sweeps;
 mod tables;
 
 use row_words::{Answer, RowFault, Table, Words, print};

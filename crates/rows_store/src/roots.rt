@@ -12,8 +12,8 @@ use row_words::{
 use std::alloc::{AllocError, Global};
 use std::fmt::Write;
 
-/// `disk OUTCOME FAILS ACTION; ..` on a new disk, and `each OUTCOME FAILS ACTION; ..`, which is run for each K from 0 on
-/// up to the first run in which no call failed.
+/// `disk OUTCOME FAILS ACTION; ..` on a new disk, and `each OUTCOME FAILS ACTION; ..`, which is run for each K from 0
+/// on up to the first run in which no call failed.
 pub(crate) fn answer(alloc: Global, mut words: Words<'_>) -> Answer {
     match words.word()? {
         "disk" => run(alloc, words),
@@ -151,9 +151,9 @@ fn refused(alloc: Global, fault: RootFault) -> Answer {
         RootFault::Stopped => Err(RowFault::Stopped),
         RootFault::OutOfMemory => Err(RowFault::OutOfMemory),
         RootFault::Bad {
-            place,
+            offset,
             damage: SlotDamage::Spelling,
-        } => Ok(format!(in alloc; "spelling at {place}")?),
-        RootFault::Bad { place, .. } => Ok(format!(in alloc; "sum at {place}")?),
+        } => Ok(format!(in alloc; "spelling at {offset}")?),
+        RootFault::Bad { offset, .. } => Ok(format!(in alloc; "sum at {offset}")?),
     }
 }

@@ -2,7 +2,11 @@
 ghost use Rattle.std.specs.Prelude.{◌≡◌, ◌<◌, ◌^◌, false};
 ghost use Rattle.row_store.specs.Value.{IsReady, IsGate, HasRoot, length_of};
 
-use crate::{roots, tables};
+use crate::changed::changed;
+use crate::dumps::dump;
+use crate::keeping::{keep, tell};
+use crate::sweeps::sweep;
+use crate::{pages, roots, tables};
 use gate_log::{GateLog, LogFault, Piece};
 use mds_base::{Damage, StoreFault};
 use mds_out::{Disk, Fuse};
@@ -13,14 +17,16 @@ use row_words::{
 use std::alloc::Global;
 
 /// The frames of a store.
-const FRAMES: u32 = 4;
+pub(crate) const FRAMES: u32 = 4;
 
-/// `disk OUTCOME FAILS ACTION; ..` on a new disk, and `each OUTCOME FAILS ACTION; ..`, which is run for each K from 0 on
-/// up to the first run in which no call failed.
+/// `disk OUTCOME FAILS ACTION; ..` on a new disk, and `each OUTCOME FAILS ACTION; ..`, which is run for each K from 0
+/// on up to the first run in which no call failed; `sweep OUTCOME FAILS STEPS; STEPS` and `changed MASK STEPS`.
 pub(crate) fn answer(alloc: Global, mut words: Words<'_>) -> Answer {
     match words.word()? {
         "disk" => run(alloc, words),
         "each" => each(alloc, words),
+        "sweep" => sweep(alloc, words),
+        "changed" => changed(alloc, words),
         _ => Err(RowFault::NotARow),
     }
 }
@@ -46,18 +52,25 @@ fn run(alloc: Global, mut words: Words<'_>) -> Answer {
     Ok(out)
 }
 
-/// `up`, `find REV NAME`, `state`, `body` and `commit REV NAME ROW BODY`, each of which brings the store up first; `create
-/// FILE` makes the file of a log; `make` as of `sorted_table`, and the actions of `root_slots` and of a disk.
+/// `up`, `find REV NAME`, `seek REV NAME`, `page REV NAME LAST LIMIT`, `state`, `body` and `commit REV NAME ROW BODY`,
+/// which may have one of the first looks behind it, each of which brings the store up first; `keep STEP | ..` brings it
+/// up and carries steps out, and `tell` says what it is. `create FILE` makes the file of a log, `dump FILE` prints the
+/// bytes of a file; `make` as of `sorted_table`, and the actions of `root_slots` and of a disk.
 fn act_on<D: Disk>(alloc: Global, disk: &mut Fuse<D>, words: Words<'_>) -> Answer {
     let mut rest = words;
     match rest.word()? {
         "up" => up(alloc, disk, Asked::Up, rest),
         "find" => up(alloc, disk, Asked::Find, rest),
+        "seek" => up(alloc, disk, Asked::Seek, rest),
+        "page" => up(alloc, disk, Asked::Page, rest),
         "state" => up(alloc, disk, Asked::State, rest),
         "body" => up(alloc, disk, Asked::Body, rest),
         "commit" => up(alloc, disk, Asked::Commit, rest),
+        "keep" => keep(alloc, disk, rest),
+        "tell" => tell(alloc, disk),
         "create" => create(alloc, disk, rest),
-        "make" => tables::act_on(alloc, disk, words),
+        "dump" => dump(alloc, disk, rest),
+        "make" | "fill" => tables::act_on(alloc, disk, words),
         _ => roots::act_on(alloc, disk, words),
     }
 }
@@ -76,6 +89,8 @@ fn create<D: Disk>(alloc: Global, disk: &mut D, mut words: Words<'_>) -> Answer 
 enum Asked {
     Up,
     Find,
+    Seek,
+    Page,
     State,
     Body,
     Commit,
@@ -100,8 +115,11 @@ fn ask<D: Disk>(
     requires short { length_of store.force < 2 ^ 63 }
     requires gate { HasRoot store → IsGate store.force 0 (D.seen disk.old) }
 {
-    if let Asked::Find = asked {
-        return find(alloc, disk, &mut store, words);
+    match asked {
+        Asked::Find => return find(alloc, disk, &mut store, words),
+        Asked::Seek => return pages::seek(alloc, disk, &mut store, words),
+        Asked::Page => return pages::page(alloc, disk, &mut store, words),
+        _ => {}
     }
     if store.is_new() {
         return text(alloc, "new");
@@ -128,7 +146,8 @@ fn find<D: Disk>(alloc: Global, disk: &mut D, store: &mut RowStore, mut words: W
 
 fn state<D: Disk>(alloc: Global, disk: &mut D, store: &mut RowStore) -> Answer
     requires root { HasRoot store.old }
-    requires ready { store.old.stopped ≡ false → IsReady store.old (D.seen disk.old) (D.sizes disk.old) (D.images disk.old) }
+    requires ready { store.old.stopped ≡ false
+        → IsReady store.old (D.seen disk.old) (D.sizes disk.old) (D.images disk.old) }
 {
     let mut bytes = Vec::new(alloc);
     match store.state_bytes(disk, &mut bytes) {
@@ -141,7 +160,8 @@ fn state<D: Disk>(alloc: Global, disk: &mut D, store: &mut RowStore) -> Answer
 fn body<D: Disk>(alloc: Global, disk: &mut D, store: &mut RowStore) -> Answer
     requires short { length_of store.old.force < 2 ^ 63 }
     requires gate { IsGate store.old.force 0 (D.seen disk.old) }
-    requires ready { store.old.stopped ≡ false → IsReady store.old (D.seen disk.old) (D.sizes disk.old) (D.images disk.old) }
+    requires ready { store.old.stopped ≡ false
+        → IsReady store.old (D.seen disk.old) (D.sizes disk.old) (D.images disk.old) }
 {
     let mut bytes = Vec::new(alloc);
     match store.body(disk, 0, &mut bytes) {
@@ -151,7 +171,7 @@ fn body<D: Disk>(alloc: Global, disk: &mut D, store: &mut RowStore) -> Answer
     }
 }
 
-/// Commits a row with a body, and answers what is found at its key then.
+/// Commits a row with a body, and answers what is found at its key then, or what a look gives that stands behind it.
 fn commit<D: Disk>(alloc: Global, disk: &mut D, store: &mut RowStore, words: Words<'_>) -> Answer
     requires root { HasRoot store.old }
     requires running { store.old.stopped ≡ false }
@@ -167,13 +187,25 @@ fn commit<D: Disk>(alloc: Global, disk: &mut D, store: &mut RowStore, words: Wor
     let piece = Piece::of(alloc, bytes.as_slice())?;
     let changes = [Change { key, attr }];
     match store.commit(alloc, disk, &changes, &piece) {
-        Ok(()) => find(alloc, disk, store, words),
+        Ok(()) if rest.is_empty() => find(alloc, disk, store, words),
+        Ok(()) => look(alloc, disk, store, rest),
         Err(fault) => refused(alloc, fault),
     }
 }
 
+fn look<D: Disk>(alloc: Global, disk: &mut D, store: &mut RowStore, mut words: Words<'_>) -> Answer
+    requires { store.old.stopped ≡ false → IsReady store.old (D.seen disk.old) (D.sizes disk.old) (D.images disk.old) }
+{
+    match words.word()? {
+        "find" => find(alloc, disk, store, words),
+        "seek" => pages::seek(alloc, disk, store, words),
+        "page" => pages::page(alloc, disk, store, words),
+        _ => Err(RowFault::NotARow),
+    }
+}
+
 /// `spelling at PLACE of FILE`, `sum at PLACE of FILE`, or the row's fault.
-fn refused(alloc: Global, fault: StoreFault) -> Answer {
+pub(crate) fn refused(alloc: Global, fault: StoreFault) -> Answer {
     match fault {
         StoreFault::Device => Err(RowFault::Device),
         StoreFault::Stopped => Err(RowFault::Stopped),
@@ -181,11 +213,11 @@ fn refused(alloc: Global, fault: StoreFault) -> Answer {
         StoreFault::Room => Err(RowFault::Refused),
         StoreFault::Damaged {
             file,
-            place,
+            offset,
             damage: Damage::Spelling,
-        } => Ok(format!(in alloc; "spelling at {place} of {file}")?),
-        StoreFault::Damaged { file, place, .. } => Ok(format!(in alloc;
-            "sum at {place} of {file}"
+        } => Ok(format!(in alloc; "spelling at {offset} of {file}")?),
+        StoreFault::Damaged { file, offset, .. } => Ok(format!(in alloc;
+            "sum at {offset} of {file}"
         )?),
     }
 }

@@ -234,9 +234,9 @@ pub(crate) fn refused(alloc: Global, fault: TableFault) -> Answer {
         TableFault::Device => Err(RowFault::Device),
         TableFault::OutOfMemory => Err(RowFault::OutOfMemory),
         TableFault::Damaged {
-            place,
+            offset,
             damage: TableDamage::Spelling,
-        } => Ok(format!(in alloc; "spelling at {place}")?),
-        TableFault::Damaged { place, .. } => Ok(format!(in alloc; "sum at {place}")?),
+        } => Ok(format!(in alloc; "spelling at {offset}")?),
+        TableFault::Damaged { offset, .. } => Ok(format!(in alloc; "sum at {offset}")?),
     }
 }
