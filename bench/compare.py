@@ -1,11 +1,11 @@
 """Prints what the program takes beside others that do the same: compare.py PROGRAM PLAIN PEER PARTS FOLDER RUNS."""
-import ctypes
 import filecmp
 import os
 import sys
 from collections import namedtuple
 
 import scripts
+from measure import adopt_orphans, measure
 
 # How many calls a script has. A run has at most 2^20 events and a call is three, so 10^6 calls are past the limit.
 SIZES = (10**4, 10**5, 3 * 10**5)
@@ -34,19 +34,6 @@ WORKS = (
 Program = namedtuple("Program", "name words lines verdict")
 
 
-def measure(words, script, text):
-    """Runs a command on a script: seconds of one processor, user and system, and the peak of its memory in MB.
-
-    Linux counts what the parent held when it started a child as the child's own, and Python holds 10 MB. So a shell,
-    which holds less than 1, starts the command and ends, and the command is then waited for as an orphan."""
-    shell = ["sh", "-c", 'script=$1 text=$2; shift 2; "$@" <"$script" >"$text" &', "sh", script, text, *words]
-    os.waitpid(os.posix_spawnp("sh", shell, os.environ), 0)
-    _, status, used = os.wait4(-1, 0)
-    if status != 0:
-        sys.exit(f"{' '.join(words)} ended with status {os.waitstatus_to_exitcode(status)}")
-    return used.ru_utime + used.ru_stime, used.ru_maxrss / 1024
-
-
 def write_script(lines, size, folder):
     """Writes a script to a file of its own, and answers where it is."""
     path = os.path.join(folder, f"{lines.__name__}-{size}")
@@ -66,6 +53,7 @@ def least(programs, runs, folder):
         for size in SIZES if turn < LONG_RUNS else SIZES[:-1]:
             for program in programs:
                 took = measure(program.words, scripts_of[program.lines, size], texts[program.name])
+                took = took.processor, took.peak
                 least_so_far = [min(pair) for pair in zip(took, found[size, program.name][0])]
                 said = program.verdict(texts[programs[0].name], texts[program.name], size)
                 found[size, program.name] = least_so_far, said
@@ -120,7 +108,8 @@ def least_of_work(parts, line, runs, folder):
     script, text = os.path.join(folder, "work"), os.path.join(folder, "count")
     with open(script, "w") as file:
         file.write(f"{line}\n")
-    return [min(found) for found in zip(*(measure([parts], script, text) for _ in range(runs)))]
+    found = [measure([parts], script, text) for _ in range(runs)]
+    return min(took.processor for took in found), min(took.peak for took in found)
 
 
 def met(is_met):
@@ -142,7 +131,7 @@ def all_rows(_ours, theirs, size):
 
 def main():
     program, plain, peer, parts, folder, runs = sys.argv[1:]
-    ctypes.CDLL(None).prctl(36, 1, 0, 0, 0)  # PR_SET_CHILD_SUBREAPER: orphans come to this process
+    adopt_orphans()
     # SQLite is driven by its own command line, which reads each insert as SQL and keeps table and journal in memory.
     table("Creates through the log: distinct names, one client and one server, at most 8000 names a directory", [
         Program("giga", [program, "solo"], scripts.creates, no_verdict),
