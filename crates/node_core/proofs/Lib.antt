@@ -8,3 +8,4 @@ pub mod ReplayLaw
 pub mod Undoes
 pub mod Planned
 pub mod Copies
+pub mod OnTerms

@@ -6,7 +6,7 @@ use Rattle.mds_base.specs.declared.reply.Final.{Final}
 use Rattle.mds_base.specs.declared.reply.Reply.{Reply}
 use Rattle.records.specs.declared.msg.Msg.{Msg}
 use Rattle.sessions.specs.Kept.{judge_kept}
-use Rattle.node_core.specs.Nodes.{StoreV, owns, has_numbers, session_in}
+use Rattle.node_core.specs.Nodes.{NodeAndRows, owns, has_numbers, session_in}
 use Rattle.node_core.specs.Rules.{Asked, ChangeOf, LookOf, NotServed, asked_of, said_in, Outcome, Silent, Looks, Repeats, Carries, outcome_of, outcome, request_in}
 use Rattle.node_core.specs.Serving.{serve, serve_request, served_as, carries, carried_at, part_at, replayed_all, may_carry}
 use Rattle.mds_base.proofs.Finals.{same_final_self}
@@ -17,7 +17,7 @@ pub no_look : (b : Bool) (reply : Reply) (said : Final) → cond b (Looks reply)
 no_look true reply said e = cc
 no_look false reply said e = cc
 
-carried_again : (store : StoreV) (ask : Ask) (now : ℕ) (said : Final) (a : Asked) → asked_of ask.call ≡ a → outcome_of store ask now a ≡ Carries said → has_numbers store.node ≡ true
+carried_again : (store : NodeAndRows) (ask : Ask) (now : ℕ) (said : Final) (a : Asked) → asked_of ask.call ≡ a → outcome_of store ask now a ≡ Carries said → has_numbers store.node ≡ true
     → replayed_all store (served_as store ask (Carries said)).records ≡ (served_as store ask (Carries said)).store
 carried_again store ask now said (ChangeOf dir name) asked is numbers =
     let o = owned_of (owns store.node dir 0) (judge_kept (session_in store.node dir 0 ask.client) ask.seq) (said_in store ask.call dir name) said (ap (λ x. carries x said) is ∙ same_final_self said) in
@@ -27,15 +27,15 @@ carried_again store ask now said (ChangeOf dir name) asked is numbers =
 carried_again store ask now said (LookOf dir name) asked is numbers = absurd (no_look (owns store.node dir 0) _ said is)
 carried_again store ask now said NotServed asked is numbers = cc
 
-served_again : (store : StoreV) (ask : Ask) (now : ℕ) (o : Outcome) → outcome store ask now ≡ o → has_numbers store.node ≡ true → replayed_all store (served_as store ask o).records ≡ (served_as store ask o).store
+served_again : (store : NodeAndRows) (ask : Ask) (now : ℕ) (o : Outcome) → outcome store ask now ≡ o → has_numbers store.node ≡ true → replayed_all store (served_as store ask o).records ≡ (served_as store ask o).store
 served_again store ask now Silent is numbers = refl
 served_again store ask now (Looks reply) is numbers = refl
 served_again store ask now (Repeats said) is numbers = refl
 served_again store ask now (Carries said) is numbers = carried_again store ask now said (asked_of ask.call) refl is numbers
 
-request_again : (store : StoreV) (request : Option Ask) (now : ℕ) → has_numbers store.node ≡ true → replayed_all store (serve_request store request now).records ≡ (serve_request store request now).store
+request_again : (store : NodeAndRows) (request : Option Ask) (now : ℕ) → has_numbers store.node ≡ true → replayed_all store (serve_request store request now).records ≡ (serve_request store request now).store
 request_again store None now numbers = refl
 request_again store (Some ask) now numbers = served_again store ask now (outcome store ask now) refl numbers
 
-pub replay_law : (store : StoreV) (msg : Msg) (now : ℕ) → has_numbers store.node ≡ true → replayed_all store (serve store msg now).records ≡ (serve store msg now).store
+pub replay_law : (store : NodeAndRows) (msg : Msg) (now : ℕ) → has_numbers store.node ≡ true → replayed_all store (serve store msg now).records ≡ (serve store msg now).store
 replay_law store msg now numbers = request_again store (request_in msg) now numbers

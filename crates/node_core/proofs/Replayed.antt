@@ -10,35 +10,35 @@ use Rattle.records.specs.declared.record.Record.TheVariants.{Served}
 use Rattle.sessions.specs.declared.kept.Judged.{Judged}
 use Rattle.sessions.specs.declared.kept.Judged.TheVariants.{New, Again, Old}
 use Rattle.sessions.specs.Kept.{judge_kept}
-use Rattle.node_core.specs.Nodes.{NodeV, StoreV, owns, has_numbers, session_in}
+use Rattle.node_core.specs.Nodes.{NodeV, NodeAndRows, owns, has_numbers, session_in}
 use Rattle.node_core.specs.Rules.{ChangeOf, LookOf, NotServed, asked_of, said_in, Outcome, Silent, Looks, Carries, by_judged, outcome_of, outcome}
 use Rattle.node_core.specs.Serving.{carries, may_follow, may_carry, is_new_change, part_at, ask_of, carried, carried_at, replayed, replayed_as, IsReplayed}
 
 -- a record that may not follow changes nothing
-pub stays : (store : StoreV) (client seq part : ℕ) (call : Call) (said : Final) → (may_follow store (Served client seq part call said) ≡ true → ⊥) → IsReplayed store (Served client seq part call said) store.node store.rows false
+pub stays : (store : NodeAndRows) (client seq part : ℕ) (call : Call) (said : Final) → (may_follow store (Served client seq part call said) ≡ true → ⊥) → IsReplayed store (Served client seq part call said) store.node store.rows false
 stays store client seq part call said never =
     let e : may_follow store (Served client seq part call said) ≡ false = false_from_ne_true _ never in
     let r : replayed store (Served client seq part call said) ≡ store = ap (replayed_as store (Served client seq part call said)) e in
-    record { follows' = sym e; node' = ap (λ (v : StoreV). v.node) (sym r); rows' = ap (λ (v : StoreV). v.rows) (sym r) }
+    record { follows' = sym e; node' = ap (λ (v : NodeAndRows). v.node) (sym r); rows' = ap (λ (v : NodeAndRows). v.rows) (sym r) }
 
 -- a call that is no change is not replayed
-no_carries : (store : StoreV) (client seq : ℕ) (call : Call) (said : Final) (o : Outcome) → outcome store (ask_of client seq call) 0 ≡ o → carries o said ≡ false → carries (outcome store (ask_of client seq call) 0) said ≡ false
+no_carries : (store : NodeAndRows) (client seq : ℕ) (call : Call) (said : Final) (o : Outcome) → outcome store (ask_of client seq call) 0 ≡ o → carries o said ≡ false → carries (outcome store (ask_of client seq call) 0) said ≡ false
 no_carries store client seq call said o is never = ap (λ x. carries x said) is ∙ never
 
 look_carries : (b : Bool) (reply : Reply) (said : Final) → carries (cond b (Looks reply) Silent) said ≡ false
 look_carries true reply said = refl
 look_carries false reply said = refl
 
-no_follow : (store : StoreV) (client seq part : ℕ) (call : Call) (said : Final) → carries (outcome store (ask_of client seq call) 0) said ≡ false → may_follow store (Served client seq part call said) ≡ true → ⊥
+no_follow : (store : NodeAndRows) (client seq part : ℕ) (call : Call) (said : Final) → carries (outcome store (ask_of client seq call) 0) said ≡ false → may_follow store (Served client seq part call said) ≡ true → ⊥
 no_follow store client seq part call said never e =
     let h = and_parts (has_numbers store.node) _ e in
     let c = and_parts (carries (outcome store (ask_of client seq call) 0) said) _ h.1 in
     let t = c.0 in cc
 
-pub not_change : (store : StoreV) (client seq part : ℕ) (call : Call) (said : Final) → asked_of call ≡ NotServed → IsReplayed store (Served client seq part call said) store.node store.rows false
+pub not_change : (store : NodeAndRows) (client seq part : ℕ) (call : Call) (said : Final) → asked_of call ≡ NotServed → IsReplayed store (Served client seq part call said) store.node store.rows false
 not_change store client seq part call said asked = stays store client seq part call said (no_follow store client seq part call said (no_carries store client seq call said Silent (ap (outcome_of store (ask_of client seq call) 0) asked) refl))
 
-pub not_look : (store : StoreV) (client seq part : ℕ) (call : Call) (said : Final) (dir : ℕ) (name : List ℕ) → asked_of call ≡ LookOf dir name → IsReplayed store (Served client seq part call said) store.node store.rows false
+pub not_look : (store : NodeAndRows) (client seq part : ℕ) (call : Call) (said : Final) (dir : ℕ) (name : List ℕ) → asked_of call ≡ LookOf dir name → IsReplayed store (Served client seq part call said) store.node store.rows false
 not_look store client seq part call said dir name asked =
     stays store client seq part call said (no_follow store client seq part call said
     (ap (λ x. carries (outcome_of store (ask_of client seq call) 0 x) said) asked ∙ look_carries (owns store.node dir 0) _ said))
@@ -53,7 +53,7 @@ pub owned_of : (b : Bool) (j : Judged) (own said : Final) → carries (cond b (b
 owned_of true j own said e = let h = judged_new_of j own said e in (refl, h.0, h.1)
 owned_of false j own said e = cc
 
-pub follows_means : (store : StoreV) (client seq part : ℕ) (call : Call) (said : Final) (dir : ℕ) (name : List ℕ) → asked_of call ≡ ChangeOf dir name → may_follow store (Served client seq part call said) ≡ true
+pub follows_means : (store : NodeAndRows) (client seq part : ℕ) (call : Call) (said : Final) (dir : ℕ) (name : List ℕ) → asked_of call ≡ ChangeOf dir name → may_follow store (Served client seq part call said) ≡ true
     → (may_carry store.node dir client seq part ≡ true) × (said ≡ said_in store call dir name)
 follows_means store client seq part call said dir name asked e =
     let h = and_parts (has_numbers store.node) _ e in
@@ -81,7 +81,7 @@ carry_means node dir client seq part e =
     record { part' = eqb-true part 0 p.0; numbers = n.0; own = n.1; newer = new_of (judge_kept (session_in node dir 0 client) seq) h.1 }
 
 -- a change that may follow is carried out
-pub follows_so : (store : StoreV) (client seq part : ℕ) (call : Call) (said : Final) (dir : ℕ) (name : List ℕ) → asked_of call ≡ ChangeOf dir name → may_carry store.node dir client seq part ≡ true → said ≡ said_in store call dir name
+pub follows_so : (store : NodeAndRows) (client seq part : ℕ) (call : Call) (said : Final) (dir : ℕ) (name : List ℕ) → asked_of call ≡ ChangeOf dir name → may_carry store.node dir client seq part ≡ true → said ≡ said_in store call dir name
     → (may_follow store (Served client seq part call said) ≡ true) × (replayed store (Served client seq part call said) ≡ carried store client seq call dir name)
 follows_so store client seq part call said dir name asked may said' =
     let m = carry_means store.node dir client seq part may in

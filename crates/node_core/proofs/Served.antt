@@ -18,17 +18,17 @@ use Rattle.sessions.specs.declared.kept.Judged.TheVariants.{New}
 use Rattle.sessions.specs.Kept.{judge_kept}
 use Rattle.sessions.specs.Kept as sessions
 use Rattle.mds_base.specs.declared.edit.Edit.{Edit}
-use Rattle.node_core.specs.Nodes.{NodeV, StoreV, owns, session_in, row_in, rows_after, noted_in, part_in}
+use Rattle.node_core.specs.Nodes.{NodeV, NodeAndRows, owns, session_in, row_in, rows_after, noted_in, part_in}
 use Rattle.name_hash.specs.RowPlace.{row_key}
 use Rattle.node_core.specs.Rules.{ChangeOf, LookOf, NotServed, asked_of, said_of, said_in, found, Silent, Looks, by_judged, outcome_of}
 use Rattle.node_core.specs.Serving.{ServedV, served_as, serve_ask, answer_to, carried, carried_at, part_at}
 use Rattle.node_core.specs.Edits.{node_noted, numbers_of}
 use Rattle.node_core.proofs.Calls.{each_change}
 
-abbrev nothing : StoreV → ServedV
+abbrev nothing : NodeAndRows → ServedV
 nothing store = record { store = store; records = []; outputs = [] }
 
-module _ (store : StoreV) (ask : Ask) (now dir : ℕ) (name : List ℕ) where
+module _ (store : NodeAndRows) (ask : Ask) (now dir : ℕ) (name : List ℕ) where
   pub change_away : asked_of ask.call ≡ ChangeOf dir name → owns store.node dir 0 ≡ false → serve_ask store ask now ≡ nothing store
   change_away asked away =
       ap (λ a. served_as store ask (outcome_of store ask now a)) asked
@@ -66,7 +66,7 @@ module _ (store : StoreV) (ask : Ask) (now dir : ℕ) (name : List ℕ) where
         outputs = answer_to ask (Said (said_in store ask.call dir name)) ∷ [];
       }) asked
 
-pub not_served : (store : StoreV) (ask : Ask) (now : ℕ) → asked_of ask.call ≡ NotServed → serve_ask store ask now ≡ nothing store
+pub not_served : (store : NodeAndRows) (ask : Ask) (now : ℕ) → asked_of ask.call ≡ NotServed → serve_ask store ask now ≡ nothing store
 not_served store ask now asked = ap (λ a. served_as store ask (outcome_of store ask now a)) asked
 
 removed_numbers : (d : ℕ) (n : List ℕ) (b : Bool) → numbers_of (cond b Removed IsDir) ≡ length (plain.given_by (Remove d n) (Said (cond b Removed IsDir)))

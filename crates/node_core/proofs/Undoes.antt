@@ -18,7 +18,7 @@ use Rattle.sessions.specs.Kept.{SessionMap, restored, put_back}
 use Rattle.node_core.specs.declared.part.Part.{Part}
 use Rattle.mds_base.specs.declared.edit.Edit.{Edit}
 use Rattle.node_core.specs.declared.undo.Undo.{Undo}
-use Rattle.node_core.specs.Nodes.{NodeV, StoreV, PartKey, part_cmp, new_part, session_in, noted_in}
+use Rattle.node_core.specs.Nodes.{NodeV, NodeAndRows, PartKey, part_cmp, new_part, session_in, noted_in}
 use Rattle.node_core.specs.Rules.{Asked, ChangeOf, LookOf, NotServed, asked_of, said_in, Outcome, Silent, Looks, Repeats, Carries, outcome, request_in}
 use Rattle.node_core.specs.Serving.{serve, serve_request, served_as, carried_at}
 use Rattle.node_core.specs.Edits.{node_noted}
@@ -97,7 +97,7 @@ unfolding session_in
 note_undone node dir client seq said edit before =
     ap (λ p. record { server = node.server; setup = node.setup; next = node.next; parts = p }) (noted_back node.parts dir client node.next _ (record { seq = seq; said = said }) (map.get node.parts (dir, 0)) refl)
 
-served_undone : (store : StoreV) (ask : Ask) (o : Outcome) (dir : ℕ) (name : List ℕ) → asked_of ask.call ≡ ChangeOf dir name → undone (served_as store ask o).store.node (before_in store.node dir ask.client) ≡ store.node
+served_undone : (store : NodeAndRows) (ask : Ask) (o : Outcome) (dir : ℕ) (name : List ℕ) → asked_of ask.call ≡ ChangeOf dir name → undone (served_as store ask o).store.node (before_in store.node dir ask.client) ≡ store.node
 served_undone store ask Silent dir name asked = own_undone store.node dir ask.client
 served_undone store ask (Looks reply) dir name asked = own_undone store.node dir ask.client
 served_undone store ask (Repeats said) dir name asked = own_undone store.node dir ask.client
@@ -108,19 +108,19 @@ served_undone store ask (Carries said) dir name asked =
 some_same : (a b : Undo) → Some a ≡ Some b → a ≡ b
 some_same a b e = cc
 
-asked_undone : (store : StoreV) (ask : Ask) (o : Outcome) (undo : Undo) (a : Asked) → asked_of ask.call ≡ a → before_asked store.node ask.client a ≡ Some undo → undone (served_as store ask o).store.node undo ≡ store.node
+asked_undone : (store : NodeAndRows) (ask : Ask) (o : Outcome) (undo : Undo) (a : Asked) → asked_of ask.call ≡ a → before_asked store.node ask.client a ≡ Some undo → undone (served_as store ask o).store.node undo ≡ store.node
 asked_undone store ask o undo (ChangeOf dir name) asked is = ap (undone (served_as store ask o).store.node) (sym (some_same _ undo is)) ∙ served_undone store ask o dir name asked
 asked_undone store ask o undo (LookOf dir name) asked is = cc
 asked_undone store ask o undo NotServed asked is = cc
 
-request_undone : (store : StoreV) (request : Option Ask) (now : ℕ) (undo : Undo) → before_request store.node request ≡ Some undo → undone (serve_request store request now).store.node undo ≡ store.node
+request_undone : (store : NodeAndRows) (request : Option Ask) (now : ℕ) (undo : Undo) → before_request store.node request ≡ Some undo → undone (serve_request store request now).store.node undo ≡ store.node
 request_undone store None now undo is = cc
 request_undone store (Some ask) now undo is = asked_undone store ask (outcome store ask now) undo (asked_of ask.call) refl is
 
-pub undo_law : (store : StoreV) (msg : Msg) (now : ℕ) (undo : Undo) → before store.node msg ≡ Some undo → undone (serve store msg now).store.node undo ≡ store.node
+pub undo_law : (store : NodeAndRows) (msg : Msg) (now : ℕ) (undo : Undo) → before store.node msg ≡ Some undo → undone (serve store msg now).store.node undo ≡ store.node
 undo_law store msg now undo is = request_undone store (request_in msg) now undo is
 
-none_node : (store : StoreV) (ask : Ask) (o : Outcome) (a : Asked) → asked_of ask.call ≡ a → before_asked store.node ask.client a ≡ None → (served_as store ask o).store.node ≡ store.node
+none_node : (store : NodeAndRows) (ask : Ask) (o : Outcome) (a : Asked) → asked_of ask.call ≡ a → before_asked store.node ask.client a ≡ None → (served_as store ask o).store.node ≡ store.node
 none_node store ask Silent a asked is = refl
 none_node store ask (Looks reply) a asked is = refl
 none_node store ask (Repeats said) a asked is = refl
@@ -128,12 +128,12 @@ none_node store ask (Carries said) (ChangeOf dir name) asked is = cc
 none_node store ask (Carries said) (LookOf dir name) asked is = ap (λ x. (carried_at store ask.client ask.seq ask.call x).node) asked
 none_node store ask (Carries said) NotServed asked is = ap (λ x. (carried_at store ask.client ask.seq ask.call x).node) asked
 
-none_request : (store : StoreV) (request : Option Ask) (now : ℕ) → before_request store.node request ≡ None → (serve_request store request now).store.node ≡ store.node
+none_request : (store : NodeAndRows) (request : Option Ask) (now : ℕ) → before_request store.node request ≡ None → (serve_request store request now).store.node ≡ store.node
 none_request store None now is = refl
 none_request store (Some ask) now is = none_node store ask (outcome store ask now) (asked_of ask.call) refl is
 
 -- where there is nothing to take back serving leaves the node
-pub none_law : (store : StoreV) (msg : Msg) (now : ℕ) → before store.node msg ≡ None → (serve store msg now).store.node ≡ store.node
+pub none_law : (store : NodeAndRows) (msg : Msg) (now : ℕ) → before store.node msg ≡ None → (serve store msg now).store.node ≡ store.node
 none_law store msg now is = none_request store (request_in msg) now is
 
 -- The entries of partitions

@@ -17,8 +17,10 @@ part_noted part client seq said edit before = record {
   sessions = sessions.noted part.sessions client seq said;
 }
 
-abbrev pub parts_noted : map.FinMap part_cmp Part → PartKey → ℕ → ℕ → Final → Edit → Option Attr → map.FinMap part_cmp Part
-parts_noted parts key client seq said edit before = map.insert parts key (part_noted (unwrap_or (map.get parts key) new_part) client seq said edit before)
+abbrev pub parts_noted : map.FinMap part_cmp Part → PartKey → ℕ → ℕ → Final → Edit → Option Attr
+    → map.FinMap part_cmp Part
+parts_noted parts key client seq said edit before =
+    map.insert parts key (part_noted (unwrap_or (map.get parts key) new_part) client seq said edit before)
 
 -- how many numbers the reply of a change gives
 abbrev pub numbers_of : Final → ℕ
@@ -28,4 +30,10 @@ numbers_of said = 0
 -- the node once a change was noted in partition 0 of a directory
 abbrev pub node_noted : NodeV → ℕ → ℕ → ℕ → Final → Edit → Option Attr → NodeV
 node_noted node dir client seq said edit before =
-    record { server = node.server; setup = node.setup; next = node.next + numbers_of said; parts = parts_noted node.parts (dir, 0) client seq said edit before }
+    record {
+      server = node.server;
+      setup = node.setup;
+      next = node.next + numbers_of said;
+      parts =
+          parts_noted node.parts (dir, 0) client seq said edit before;
+    }

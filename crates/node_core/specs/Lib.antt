@@ -5,3 +5,4 @@ pub mod Ranges
 pub mod Edits
 pub mod Undoing
 pub mod Planning
+pub mod Terms

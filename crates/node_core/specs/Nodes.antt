@@ -39,7 +39,7 @@ pub record NodeV : Type 0 where
   pub parts : map.FinMap part_cmp Part
 
 -- a node with its rows
-pub record StoreV : Type 0 where
+pub record NodeAndRows : Type 0 where
   pub node : NodeV
   pub rows : RowMap
 
@@ -108,7 +108,8 @@ edit_in rows dir part name call said = edit_of call (Said said) (row_in rows dir
 
 -- the rows once a call on a name was carried out in a partition
 unfoldable pub rows_after : RowMap → ℕ → ℕ → List ℕ → Call → Final → RowMap
-rows_after rows dir part name call said = edited_rows rows (row_key dir part name) (edit_in rows dir part name call said)
+rows_after rows dir part name call said =
+    edited_rows rows (row_key dir part name) (edit_in rows dir part name call said)
 
 -- the node once a call on a name was carried out in a partition: the row is counted, the change is noted, and the
 -- numbers that it gave are used up
@@ -119,7 +120,8 @@ noted_in node rows dir part name client seq call said =
       setup = node.setup;
       next = node.next + length (given_by call (Said said));
       parts = map.insert node.parts (dir, part) (record {
-        count = edited_count (part_in node dir part).count (edit_in rows dir part name call said) (row_in rows dir part name);
+        count = edited_count (part_in node dir part).count (edit_in rows dir part name call said)
+            (row_in rows dir part name);
         sessions = sessions.noted (part_in node dir part).sessions client seq said;
       });
     }

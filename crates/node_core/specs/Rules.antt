@@ -7,7 +7,8 @@ use Rattle.mds_base.specs.declared.call.Call.TheVariants.{Create, Mkdir, Remove,
 use Rattle.mds_base.specs.Calls.{CallOn, OnName, OnDirectory, OnPartition}
 use Rattle.mds_base.specs.Calls.{asked_of as call_on}
 use Rattle.mds_base.specs.declared.reply.Final.{Final}
-use Rattle.mds_base.specs.declared.reply.Final.TheVariants.{Created, CreatedDir, Exists, Removed, Missing, IsDir, Set, Stale}
+use Rattle.mds_base.specs.declared.reply.Final.TheVariants.{Created, CreatedDir, Exists, Removed, Missing, IsDir, Set}
+use Rattle.mds_base.specs.declared.reply.Final.TheVariants.{Stale}
 use Rattle.mds_base.specs.declared.reply.Reply.{Reply}
 use Rattle.mds_base.specs.declared.reply.Reply.TheVariants.{Said, Found}
 use Rattle.mds_base.specs.Entries.{is_file}
@@ -18,7 +19,7 @@ use Rattle.sessions.specs.declared.kept.Judged.TheVariants.{New, Again, Old}
 use Rattle.sessions.specs.Kept.{judge_kept}
 use Rattle.node_core.specs.declared.asks.Asks.{Asks}
 use Rattle.node_core.specs.declared.asks.Asks.TheVariants.{Change, Look, NothingYet}
-use Rattle.node_core.specs.Nodes.{StoreV, part_for, owns, row_in, session_in}
+use Rattle.node_core.specs.Nodes.{NodeAndRows, part_for, owns, row_in, session_in}
 
 -- what a call asks for: a change on a name, a look at a name, or what is not served yet
 pub data Asked : Type 0 where
@@ -57,7 +58,8 @@ abbrev pub request_in : Msg → Option Ask
 request_in (Request server ask cursor) = Some ask
 request_in msg = None
 
--- the reply that the plain rules give to a change, by the entry that stands there, with the number that mkdir would give
+-- the reply that the plain rules give to a change, by the entry that stands there, with the number that mkdir would
+-- give
 abbrev pub said_of : Call → Option Attr → ℕ → Final
 said_of (Create dir name) None fresh = Created
 said_of (Create dir name) (Some attr) fresh = Exists
@@ -93,14 +95,15 @@ by_judged (Again kept) said = Repeats kept
 by_judged (Old kept) said = Silent
 
 -- the reply that a change would get at a store
-abbrev pub said_in : StoreV → Call → ℕ → List ℕ → Final
+abbrev pub said_in : NodeAndRows → Call → ℕ → List ℕ → Final
 said_in store call dir name = said_of call (row_in store.rows dir (part_for store.node dir name) name) store.node.next
 
 -- a request of what lies on another server is not served as one's own
-abbrev pub outcome_of : StoreV → Ask → ℕ → Asked → Outcome
+abbrev pub outcome_of : NodeAndRows → Ask → ℕ → Asked → Outcome
 outcome_of store ask now (ChangeOf dir name) =
     if owns store.node dir (part_for store.node dir name)
-    then by_judged (judge_kept (session_in store.node dir (part_for store.node dir name) ask.client) ask.seq) (said_in store ask.call dir name)
+    then by_judged (judge_kept (session_in store.node dir (part_for store.node dir name) ask.client) ask.seq)
+    (said_in store ask.call dir name)
     else Silent
 outcome_of store ask now (LookOf dir name) =
     if owns store.node dir (part_for store.node dir name)
@@ -108,5 +111,5 @@ outcome_of store ask now (LookOf dir name) =
     else Silent
 outcome_of store ask now NotServed = Silent
 
-abbrev pub outcome : StoreV → Ask → ℕ → Outcome
+abbrev pub outcome : NodeAndRows → Ask → ℕ → Outcome
 outcome store ask now = outcome_of store ask now (asked_of ask.call)

@@ -15,38 +15,42 @@ use Rattle.records.specs.declared.record.Record.TheVariants.{Head, Opened, Serve
 use Rattle.sessions.specs.declared.kept.Judged.{Judged}
 use Rattle.sessions.specs.declared.kept.Judged.TheVariants.{New, Again, Old}
 use Rattle.sessions.specs.Kept.{judge_kept}
-use Rattle.node_core.specs.Nodes.{NodeV, StoreV, owns, session_in, has_numbers, is_new, cleared, part_for, noted_in, rows_after}
-use Rattle.node_core.specs.Rules.{Asked, ChangeOf, LookOf, NotServed, asked_of, said_in, Outcome, Silent, Looks, Repeats, Carries, outcome, request_in}
+use Rattle.node_core.specs.Nodes.{NodeV, NodeAndRows, owns, session_in, has_numbers, is_new, cleared, part_for}
+use Rattle.node_core.specs.Nodes.{noted_in}
+use Rattle.node_core.specs.Nodes.{rows_after}
+use Rattle.node_core.specs.Rules.{Asked, ChangeOf, LookOf, NotServed, asked_of, said_in, Outcome, Silent, Looks}
+use Rattle.node_core.specs.Rules.{Repeats, Carries, outcome, request_in}
 
 -- the store once a change on a name was carried out
-abbrev pub carried : StoreV → ℕ → ℕ → Call → ℕ → List ℕ → StoreV
+abbrev pub carried : NodeAndRows → ℕ → ℕ → Call → ℕ → List ℕ → NodeAndRows
 carried store client seq call dir name =
     record {
-      node = noted_in store.node store.rows dir (part_for store.node dir name) name client seq call (said_in store call dir name);
+      node = noted_in store.node store.rows dir (part_for store.node dir name) name client seq call
+          (said_in store call dir name);
       rows = rows_after store.rows dir (part_for store.node dir name) name call (said_in store call dir name);
     }
 
-abbrev pub carried_at : StoreV → ℕ → ℕ → Call → Asked → StoreV
+abbrev pub carried_at : NodeAndRows → ℕ → ℕ → Call → Asked → NodeAndRows
 carried_at store client seq call (ChangeOf dir name) = carried store client seq call dir name
 carried_at store client seq call (LookOf dir name) = store
 carried_at store client seq call NotServed = store
 
 -- the partition in which a change is noted
-abbrev pub part_at : StoreV → Asked → ℕ
+abbrev pub part_at : NodeAndRows → Asked → ℕ
 part_at store (ChangeOf dir name) = part_for store.node dir name
 part_at store (LookOf dir name) = 0
 part_at store NotServed = 0
 
 -- what serving gives: the store, the records of one append, and the messages to send, in their order
 pub record ServedV : Type 0 where
-  pub store : StoreV
+  pub store : NodeAndRows
   pub records : List Record
   pub outputs : List Msg
 
 abbrev pub answer_to : Ask → Reply → Msg
 answer_to ask reply = Answer ask.client ask.seq ask.attempt reply
 
-abbrev pub served_as : StoreV → Ask → Outcome → ServedV
+abbrev pub served_as : NodeAndRows → Ask → Outcome → ServedV
 served_as store ask Silent = record { store = store; records = []; outputs = [] }
 served_as store ask (Looks reply) = record { store = store; records = []; outputs = answer_to ask reply ∷ [] }
 served_as store ask (Repeats said) = record { store = store; records = []; outputs = answer_to ask (Said said) ∷ [] }
@@ -58,19 +62,19 @@ served_as store ask (Carries said) =
     }
 
 -- serving a request
-abbrev pub serve_ask : StoreV → Ask → ℕ → ServedV
+abbrev pub serve_ask : NodeAndRows → Ask → ℕ → ServedV
 serve_ask store ask now = served_as store ask (outcome store ask now)
 
 -- serving a message; what is no request changes nothing and sends nothing, since nothing splits yet
-abbrev pub serve_request : StoreV → Option Ask → ℕ → ServedV
+abbrev pub serve_request : NodeAndRows → Option Ask → ℕ → ServedV
 serve_request store None now = record { store = store; records = []; outputs = [] }
 serve_request store (Some ask) now = serve_ask store ask now
 
-abbrev pub serve : StoreV → Msg → ℕ → ServedV
+abbrev pub serve : NodeAndRows → Msg → ℕ → ServedV
 serve store msg now = serve_request store (request_in msg) now
 
 -- serving several messages, one after another
-abbrev pub serve_all : StoreV → List Msg → ℕ → ServedV
+abbrev pub serve_all : NodeAndRows → List Msg → ℕ → ServedV
 serve_all store [] now = record { store = store; records = []; outputs = [] }
 serve_all store (msg ∷ msgs) now =
     record {
@@ -80,7 +84,7 @@ serve_all store (msg ∷ msgs) now =
     }
 
 -- the transfers of the partitions that move, by directory and number: nothing splits yet, so none moves
-abbrev pub reminders : StoreV → List Msg
+abbrev pub reminders : NodeAndRows → List Msg
 reminders store = []
 
 -- whether serving comes to carrying out a change with this final reply
@@ -99,38 +103,41 @@ is_new_change (Old kept) = false
 
 -- whether a change of a client would be noted in a partition of a directory
 abbrev pub may_carry : NodeV → ℕ → ℕ → ℕ → ℕ → Bool
-may_carry node dir client seq part = ((part == 0) && (has_numbers node && owns node dir 0)) && is_new_change (judge_kept (session_in node dir 0 client) seq)
+may_carry node dir client seq part = ((part == 0) && (has_numbers node && owns node dir 0))
+    && is_new_change (judge_kept (session_in node dir 0 client) seq)
 
 -- whether the first record of a log is of this node, which is new
 abbrev pub is_head : NodeV → ℕ → ℕ → ℕ → ℕ → Bool
 is_head node format servers server threshold =
-    is_new node && (((format == 1) && (servers == node.setup.servers)) && ((server == node.server) && (threshold == node.setup.threshold)))
+    is_new node && (((format == 1) && (servers == node.setup.servers))
+    && ((server == node.server) && (threshold == node.setup.threshold)))
 
 -- whether a record may follow: enough directory numbers are left, and a request with its client, number and call would
 -- be noted here, in its partition and with its final reply; the record that begins a log follows on a new node of its
 -- numbers alone, and the one that begins a run always follows; nothing splits yet, so no record of a split follows
-abbrev pub may_follow : StoreV → Record → Bool
+abbrev pub may_follow : NodeAndRows → Record → Bool
 may_follow store (Served client seq part call said) =
-    has_numbers store.node && (carries (outcome store (ask_of client seq call) 0) said && (part == part_at store (asked_of call)))
+    has_numbers store.node
+    && (carries (outcome store (ask_of client seq call) 0) said && (part == part_at store (asked_of call)))
 may_follow store (Head format servers server threshold) = is_head store.node format servers server threshold
 may_follow store Opened = true
 may_follow store item = false
 
 -- the store once a record was replayed; a record that may not follow changes nothing
-abbrev pub replayed_as : StoreV → Record → Bool → StoreV
+abbrev pub replayed_as : NodeAndRows → Record → Bool → NodeAndRows
 replayed_as store (Served client seq part call said) true = carried_at store client seq call (asked_of call)
 replayed_as store Opened true = record { node = cleared store.node; rows = store.rows }
 replayed_as store item follows = store
 
-abbrev pub replayed : StoreV → Record → StoreV
+abbrev pub replayed : NodeAndRows → Record → NodeAndRows
 replayed store item = replayed_as store item (may_follow store item)
 
-abbrev pub replayed_all : StoreV → List Record → StoreV
+abbrev pub replayed_all : NodeAndRows → List Record → NodeAndRows
 replayed_all store [] = store
 replayed_all store (item ∷ items) = replayed_all (replayed store item) items
 
 -- the store once its server was restarted: there are no leases yet, so a restart sets nothing
-abbrev pub restarted : StoreV → ℕ → StoreV
+abbrev pub restarted : NodeAndRows → ℕ → NodeAndRows
 restarted store now = store
 
 -- what serving gave is what the specification says
@@ -141,7 +148,8 @@ pub record IsServed (served : ServedV) (node : NodeV) (rows : RowMap) (handled :
   pub outputs : handled.outputs ≡ served.outputs
 
 -- what replaying a record gave is what the specification says
-pub record IsReplayed (store : StoreV) (item : Record) (node : NodeV) (rows : RowMap) (follows : Bool) : Type 0 where
+pub record IsReplayed (store : NodeAndRows) (item : Record) (node : NodeV) (rows : RowMap)
+    (follows : Bool) : Type 0 where
   pub follows' : follows ≡ may_follow store item
   pub node' : node ≡ (replayed store item).node
   pub rows' : rows ≡ (replayed store item).rows

@@ -46,4 +46,5 @@ parts_undone parts undo = parts_back parts (undo.dir, 0) undo undo.there (map.ge
 
 -- the node with that put back
 abbrev pub undone : NodeV → Undo → NodeV
-undone node undo = record { server = node.server; setup = node.setup; next = undo.next; parts = parts_undone node.parts undo }
+undone node undo =
+    record { server = node.server; setup = node.setup; next = undo.next; parts = parts_undone node.parts undo }

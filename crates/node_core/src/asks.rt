@@ -5,7 +5,7 @@ ghost use Rattle.node_core.specs.Rules.{asked_of, is_served, request_in, shown};
 use mds_base::{Ask, Asked, Call, Name};
 use records::Msg;
 
-/// What a call asks of a server (`docs/DEFINITIONS.md`, "Serving").
+/// What a call asks of a server (`crates/node_core/README.md`, "Serving").
 #[derive(Clone, Copy, Debug)]
 pub enum Asks<'a> {
     /// A change on a name of a directory.

@@ -4,9 +4,9 @@
 //! `records` for messages and records, on `bitmap`, and on `sessions`. Each directory is its partition 0 alone, since
 //! nothing splits yet. Its contract for the layers above: `Node::serve` and `Node::replay` equal the functions of
 //! `specs/Serving.antt` over any `Rows`, in the node, the rows, the records and the messages; where a call is refused
-//! the node and the rows stay as they were. Serving is `Node::plan`, which changes nothing, and then `Node::make`, which
-//! makes the small change that the plan holds. A call costs a look-up of a partition and of a session, and one look-up
-//! and one write of a row; nothing is copied but the call that is recorded and the reply that is sent.
+//! the node and the rows stay as they were. Serving is `Node::plan`, which changes nothing, and then `Node::make`,
+//! which makes the small change that the plan holds. A call costs a look-up of a partition and of a session, and one
+//! look-up and one write of a row; nothing is copied but the call that is recorded and the reply that is sent.
 #![tactic(auto)]
 
 mod asks;

@@ -1,8 +1,10 @@
-ghost use Rattle.std.specs.Prelude.{◌≡◌, ℕ, ◌+◌, ◌==◌, ◌<◌, ◌≤◌, OnOk, OnErr, IfOk, Some, true, false, unwrap_or, MatchBool, ◌≢◌};
+ghost use Rattle.std.specs.Prelude.{◌≡◌, ℕ, ◌+◌, ◌==◌, ◌<◌, ◌≤◌, OnOk, OnErr, IfOk, Some, true, false, unwrap_or};
+ghost use Rattle.std.specs.Prelude.{MatchBool, ◌≢◌};
 ghost use Rattle.std.specs.FinMap as map;
 ghost use Rattle.sessions.specs.declared.kept.Judged.{Judged};
 ghost use Rattle.sessions.specs.Kept.{judge_kept};
-ghost use Rattle.node_core.specs.Nodes.{part_cmp, new_part, new_node, owns, session_in, has_numbers, parts_cleared, bits_in};
+ghost use Rattle.node_core.specs.Nodes.{part_cmp, new_part, new_node, owns, session_in, has_numbers, parts_cleared};
+ghost use Rattle.node_core.specs.Nodes.{bits_in};
 ghost use Rattle.mds_base.specs.RowsCause.{HasRowsCause};
 ghost use Rattle.mds_base.specs.declared.limits.TheConstants.{DIRECTORIES, LEASE_MOST, MOMENTS, SERVERS_MOST};
 ghost use Rattle.node_core.specs.Edits.{parts_noted, node_noted, numbers_of};
@@ -10,7 +12,8 @@ ghost use Rattle.node_core.specs.Rules.{ChangeOf, LookOf, asked_of, found};
 ghost use Rattle.records.specs.declared.record.Record.{Record};
 ghost use Rattle.records.specs.declared.msg.Msg.{Msg};
 ghost use Rattle.node_core.specs.Planning.{noted_by, written_by, IsNewer, IsPlanOf, IsPlan};
-ghost use Rattle.node_core.specs.Serving.{serve, serve_ask, IsServed, IsReplayed, may_carry, restarted, is_head, reminders};
+ghost use Rattle.node_core.specs.Serving.{serve, serve_ask, IsServed, IsReplayed, may_carry, restarted, is_head};
+ghost use Rattle.node_core.specs.Serving.{reminders};
 ghost use Rattle.node_core.specs.Undoing.{before, before_in, before_asked, undone};
 ghost use Rattle.node_core.specs.Ranges.{DirFits, RecordFits};
 ghost use Rattle.mds_base.specs.Calls.{dir_of};
@@ -31,7 +34,7 @@ use std::alloc::{AllocError, Global};
 use std::collections::BTreeMap;
 use std::marker::Model;
 
-/// A server without its disk: what it keeps beside its rows (`docs/DEFINITIONS.md`, "Node").
+/// A server without its disk: what it keeps beside its rows (`crates/node_core/README.md`, "Node").
 #[derive(Debug, Drop)]
 pub struct Node {
     server: u32,
@@ -51,7 +54,8 @@ impl Model for Node {
 
     ghost use Rattle.node_core.specs.Ranges.{AreRanges};
 
-    ghost view = { λ a. record { server = a.server; setup = a.setup; next = a.next; parts = map.from_entries a.parts.entries } };
+    ghost view = { λ a.
+        record { server = a.server; setup = a.setup; next = a.next; parts = map.from_entries a.parts.entries } };
 
     ghost invariant = { λ a. AreRanges a.server a.setup };
 }
@@ -101,9 +105,9 @@ impl Node {
     }
 
     /// Serves a message: the records of the changes that were carried out and the messages to send are handed out
-    /// (`docs/DEFINITIONS.md`, "Serving"). Where it is refused the node and the rows stay as they are. It takes a time
-    /// that grows with the logarithms of the numbers of partitions and of clients, and with what its look-up and its
-    /// write of one row cost.
+    /// (`crates/node_core/README.md`, "Serving"). Where it is refused the node and the rows stay as they are. It takes
+    /// a time that grows with the logarithms of the numbers of partitions and of clients, and with what its look-up and
+    /// its write of one row cost.
     pub fn serve<R: Rows>(
         &mut self,
         alloc: Global,
@@ -114,7 +118,9 @@ impl Node {
         requires fits { DirFits msg.now }
         requires moment { now < MOMENTS }
         requires numbers { has_numbers self.old ≡ true }
-        ensures ok { IfOk result (λ handled. IsServed (serve (record { node = self.old; rows = R.contents rows.old }) msg.now now) self.new (R.contents rows.new) handled) }
+        ensures ok { IfOk result
+            (λ handled. IsServed (serve (record { node = self.old; rows = R.contents rows.old }) msg.now now) self.new
+            (R.contents rows.new) handled) }
         ensures err { OnErr result ((self.new ≡ self.old) × (R.contents rows.new ≡ R.contents rows.old)) }
         ensures cause { HasRowsCause (R.faults rows.old) (R.faults rows.new) result }
     {
@@ -122,7 +128,7 @@ impl Node {
         self.make(rows, plan)
     }
 
-    /// Works a Serve out: what it hands out, and what is to be changed (`docs/DEFINITIONS.md`, "Plan"). Nothing
+    /// Works a Serve out: what it hands out, and what is to be changed (`crates/node_core/README.md`, "Plan"). Nothing
     /// changes.
     pub fn plan<R: Rows>(
         &self,
@@ -133,7 +139,8 @@ impl Node {
     ) -> Result<Plan, RowsFault>
         requires fits { DirFits msg.now }
         requires moment { now < MOMENTS }
-        ensures ok { IfOk result (λ plan. IsPlan (record { node = self.now; rows = R.contents rows.old }) msg.now now plan) }
+        ensures ok { IfOk result
+            (λ plan. IsPlan (record { node = self.now; rows = R.contents rows.old }) msg.now now plan) }
         ensures rows { R.contents rows.new ≡ R.contents rows.old }
         ensures cause { HasRowsCause (R.faults rows.old) (R.faults rows.new) result }
     {
@@ -146,9 +153,14 @@ impl Node {
     /// Makes a plan that was worked out against this node and these rows, as they still are, and hands out what
     /// serving hands out. Where it is refused the node and the rows stay as they are.
     pub fn make<R: Rows>(&mut self, rows: &mut R, plan: Plan) -> Result<Handled, RowsFault>
-        requires planned { (msg : Msg) × (now : ℕ) × IsPlan (record { node = self.old; rows = R.contents rows.old }) msg now plan }
+        requires planned { (msg : Msg) × (now : ℕ)
+            × IsPlan (record { node = self.old; rows = R.contents rows.old }) msg now plan }
         requires numbers { has_numbers self.old ≡ true }
-        ensures ok { IfOk result (λ handled. (msg : Msg) → (now : ℕ) → IsPlan (record { node = self.old; rows = R.contents rows.old }) msg now plan → IsServed (serve (record { node = self.old; rows = R.contents rows.old }) msg now) self.new (R.contents rows.new) handled) }
+        ensures ok { IfOk result
+            (λ handled. (msg : Msg) → (now : ℕ)
+            → IsPlan (record { node = self.old; rows = R.contents rows.old }) msg now plan
+            → IsServed (serve (record { node = self.old; rows = R.contents rows.old }) msg now) self.new
+            (R.contents rows.new) handled) }
         ensures handed_out { IfOk result (λ handled. handled ≡ plan.handled) }
         ensures err { OnErr result ((self.new ≡ self.old) × (R.contents rows.new ≡ R.contents rows.old)) }
         ensures cause { HasRowsCause (R.faults rows.old) (R.faults rows.new) result }
@@ -164,7 +176,7 @@ impl Node {
     }
 
     /// The transfers that are to be sent again, of the partitions that move: none, since nothing splits yet
-    /// (`docs/DEFINITIONS.md`, "Reminders"). The rows stay as they are.
+    /// (`crates/node_core/README.md`, "Reminders"). The rows stay as they are.
     pub fn remind<R: Rows>(&self, alloc: Global, rows: &mut R) -> Result<MsgList, RowsFault>
         ensures ok { IfOk result (λ list. list ≡ reminders (record { node = self.now; rows = R.contents rows.old })) }
         ensures rows { R.contents rows.new ≡ R.contents rows.old }
@@ -212,7 +224,9 @@ impl Node {
     ) -> Result<Plan, RowsFault>
         requires fits { dir_of ask.now.call < DIRECTORIES }
         requires moment { now < MOMENTS }
-        ensures ok { IfOk result (λ plan. IsPlanOf (record { node = self.now; rows = R.contents rows.old }) (serve_ask (record { node = self.now; rows = R.contents rows.old }) ask.now now) plan) }
+        ensures ok { IfOk result
+            (λ plan. IsPlanOf (record { node = self.now; rows = R.contents rows.old })
+            (serve_ask (record { node = self.now; rows = R.contents rows.old }) ask.now now) plan) }
         ensures rows { R.contents rows.new ≡ R.contents rows.old }
         ensures cause { HasRowsCause (R.faults rows.old) (R.faults rows.new) result }
     {
@@ -235,7 +249,9 @@ impl Node {
         requires asked { asked_of ask.now.call ≡ LookOf dir name.now }
         requires fits { dir < DIRECTORIES }
         requires moment { now < MOMENTS }
-        ensures ok { IfOk result (λ plan. IsPlanOf (record { node = self.now; rows = R.contents rows.old }) (serve_ask (record { node = self.now; rows = R.contents rows.old }) ask.now now) plan) }
+        ensures ok { IfOk result
+            (λ plan. IsPlanOf (record { node = self.now; rows = R.contents rows.old })
+            (serve_ask (record { node = self.now; rows = R.contents rows.old }) ask.now now) plan) }
         ensures rows { R.contents rows.new ≡ R.contents rows.old }
         ensures cause { HasRowsCause (R.faults rows.old) (R.faults rows.new) result }
     {
@@ -260,7 +276,9 @@ impl Node {
     ) -> Result<Plan, RowsFault>
         requires asked { asked_of ask.now.call ≡ ChangeOf dir name.now }
         requires fits { dir < DIRECTORIES }
-        ensures ok { IfOk result (λ plan. IsPlanOf (record { node = self.now; rows = R.contents rows.old }) (serve_ask (record { node = self.now; rows = R.contents rows.old }) ask.now now) plan) }
+        ensures ok { IfOk result
+            (λ plan. IsPlanOf (record { node = self.now; rows = R.contents rows.old })
+            (serve_ask (record { node = self.now; rows = R.contents rows.old }) ask.now now) plan) }
         ensures rows { R.contents rows.new ≡ R.contents rows.old }
         ensures cause { HasRowsCause (R.faults rows.old) (R.faults rows.new) result }
     {
@@ -289,7 +307,9 @@ impl Node {
         requires asked { asked_of ask.now.call ≡ ChangeOf dir name.now }
         requires own { owns self.now dir 0 ≡ true }
         requires newer { judge_kept (session_in self.now dir 0 ask.now.client) ask.now.seq ≡ Judged.New }
-        ensures ok { IfOk result (λ plan. IsPlanOf (record { node = self.now; rows = R.contents rows.old }) (serve_ask (record { node = self.now; rows = R.contents rows.old }) ask.now now) plan) }
+        ensures ok { IfOk result
+            (λ plan. IsPlanOf (record { node = self.now; rows = R.contents rows.old })
+            (serve_ask (record { node = self.now; rows = R.contents rows.old }) ask.now now) plan) }
         ensures rows { R.contents rows.new ≡ R.contents rows.old }
         ensures cause { HasRowsCause (R.faults rows.old) (R.faults rows.new) result }
     {
@@ -313,7 +333,7 @@ impl Node {
         })
     }
 
-    /// Replays a record, and answers true exactly where it may follow (`docs/DEFINITIONS.md`, "Records that may
+    /// Replays a record, and answers true exactly where it may follow (`crates/node_core/README.md`, "Records that may
     /// follow"); else nothing changes. Where it is refused the node and the rows stay as they are. A change takes what
     /// serving it takes; the beginning of a run takes a time that grows with the number of sessions, and no memory.
     pub fn replay<R: Rows>(
@@ -323,7 +343,9 @@ impl Node {
         item: &Record,
     ) -> Result<bool, RowsFault>
         requires fits { RecordFits item.now }
-        ensures ok { IfOk result (λ follows. IsReplayed (record { node = self.old; rows = R.contents rows.old }) item.now self.new (R.contents rows.new) follows) }
+        ensures ok { IfOk result
+            (λ follows. IsReplayed (record { node = self.old; rows = R.contents rows.old }) item.now self.new
+            (R.contents rows.new) follows) }
         ensures err { OnErr result ((self.new ≡ self.old) × (R.contents rows.new ≡ R.contents rows.old)) }
         ensures cause { HasRowsCause (R.faults rows.old) (R.faults rows.new) result }
     {
@@ -370,7 +392,9 @@ impl Node {
         said: Final,
     ) -> Result<bool, RowsFault>
         requires fits { dir_of call.now < DIRECTORIES }
-        ensures ok { IfOk result (λ follows. IsReplayed (record { node = self.old; rows = R.contents rows.old }) (Record.Served client seq part call.now said) self.new (R.contents rows.new) follows) }
+        ensures ok { IfOk result
+            (λ follows. IsReplayed (record { node = self.old; rows = R.contents rows.old })
+            (Record.Served client seq part call.now said) self.new (R.contents rows.new) follows) }
         ensures err { OnErr result ((self.new ≡ self.old) × (R.contents rows.new ≡ R.contents rows.old)) }
         ensures cause { HasRowsCause (R.faults rows.old) (R.faults rows.new) result }
     {
@@ -397,7 +421,9 @@ impl Node {
     ) -> Result<bool, RowsFault>
         requires asked { asked_of call.now ≡ ChangeOf dir name.now }
         requires fits { dir < DIRECTORIES }
-        ensures ok { IfOk result (λ follows. IsReplayed (record { node = self.old; rows = R.contents rows.old }) (Record.Served client seq part call.now said) self.new (R.contents rows.new) follows) }
+        ensures ok { IfOk result
+            (λ follows. IsReplayed (record { node = self.old; rows = R.contents rows.old })
+            (Record.Served client seq part call.now said) self.new (R.contents rows.new) follows) }
         ensures err { OnErr result ((self.new ≡ self.old) × (R.contents rows.new ≡ R.contents rows.old)) }
         ensures cause { HasRowsCause (R.faults rows.old) (R.faults rows.new) result }
     {
@@ -556,9 +582,15 @@ fn note_in(
     weighed: Weighed,
     before: Option<Attr>,
 ) -> Result<(), AllocError>
-    requires { judge_kept (map.get (unwrap_or (map.get (map.from_entries {R = part_cmp} parts.old.entries) (dir, 0)) new_part).sessions client) seq ≡ Judged.New }
-    ensures ok { OnOk result (map.from_entries {R = part_cmp} parts.new.entries ≡ parts_noted (map.from_entries {R = part_cmp} parts.old.entries) (dir, 0) client seq weighed.said weighed.edit before) }
-    ensures err { OnErr result (map.from_entries {R = part_cmp} parts.new.entries ≡ map.from_entries {R = part_cmp} parts.old.entries) }
+    requires { judge_kept
+        (map.get (unwrap_or (map.get (map.from_entries {R = part_cmp} parts.old.entries) (dir, 0)) new_part).sessions
+        client) seq ≡ Judged.New }
+    ensures ok { OnOk result
+        (map.from_entries {R = part_cmp} parts.new.entries
+        ≡ parts_noted (map.from_entries {R = part_cmp} parts.old.entries) (dir, 0) client seq weighed.said weighed.edit
+        before) }
+    ensures err { OnErr result
+        (map.from_entries {R = part_cmp} parts.new.entries ≡ map.from_entries {R = part_cmp} parts.old.entries) }
 {
     if let Some(part) = parts.get_mut(&(dir, 0)) {
         return part.note(client, seq, weighed, before);

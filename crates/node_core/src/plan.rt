@@ -5,8 +5,8 @@ use mds_base::{Attr, RowKey};
 use records::Handled;
 use std::alloc::Global;
 
-/// A Serve that was worked out and is still to be made (`docs/DEFINITIONS.md`, "Plan"). It holds what serving hands
-/// out; what serving changes is small: a note in one partition, and one row.
+/// A Serve that was worked out and is still to be made (`crates/node_core/README.md`, "Plan"). It holds what serving
+/// hands out; what serving changes is small: a note in one partition, and one row.
 #[derive(Debug, Drop)]
 pub struct Plan {
     /// The records and the messages that serving hands out.

@@ -38,7 +38,8 @@ pub fn answered(alloc: Global, ask: &Ask, reply: Reply) -> Result<Handled, Alloc
 
 /// A change is answered and recorded.
 pub fn recorded(alloc: Global, ask: &Ask, said: Final) -> Result<Handled, AllocError>
-    ensures records { IfOk result (λ handled. handled.records ≡ Record.Served ask.now.client ask.now.seq 0 ask.now.call said ∷ []) }
+    ensures records { IfOk result
+        (λ handled. handled.records ≡ Record.Served ask.now.client ask.now.seq 0 ask.now.call said ∷ []) }
     ensures outputs { IfOk result (λ handled. handled.outputs ≡ answer_to ask.now (Reply.Said said) ∷ []) }
 {
     let call = ask.call.copy(alloc)?;

@@ -26,7 +26,8 @@ pub struct Undo {
 
 /// Puts back what the partitions kept. It takes no memory.
 pub fn undo_in(parts: &mut BTreeMap<(u64, u32), Part>, undo: Undo)
-    ensures { map.from_entries {R = part_cmp} parts.new.entries ≡ parts_undone (map.from_entries parts.old.entries) undo }
+    ensures { map.from_entries {R = part_cmp} parts.new.entries
+        ≡ parts_undone (map.from_entries parts.old.entries) undo }
 {
     if !undo.there {
         let _ = parts.remove(&(undo.dir, 0));

@@ -1,7 +1,7 @@
 use Rattle.std.proofs.Common.{◌∙◌, sym, ap, subst, refl, Option, None}
 use Rattle.std.specs.Prelude.{IfOk}
 use Rattle.mds_base.specs.declared.ask.Ask.{Ask}
-use Rattle.node_core.specs.Nodes.{StoreV}
+use Rattle.node_core.specs.Nodes.{NodeAndRows}
 use Rattle.node_core.specs.Planning.{IsPlanOf}
 use Rattle.node_core.specs.Ranges.{RequestFits}
 use Rattle.node_core.specs.Serving.{serve_request}
@@ -13,12 +13,12 @@ plan_ask-requires-clause-fits g c = subst RequestFits (sym c.in-Some.ensures) c.
 
 pub returns-in-Some-clause-ok : goal.returns-in-Some-clause-ok
 returns-in-Some-clause-ok g c =
-    let store : StoreV = record { node = c.args.self.now; rows = g.R.Rows.contents c.args.rows.now } in
+    let store : NodeAndRows = record { node = c.args.self.now; rows = g.R.Rows.contents c.args.rows.now } in
     subst (λ (request : Option Ask). IfOk c.plan_ask.result (λ plan. IsPlanOf store (serve_request store request c.args.now) plan)) c.in-Some.ensures c.plan_ask.ensures.ok
 
 pub returns-in-None-clause-ok : goal.returns-in-None-clause-ok
 returns-in-None-clause-ok g c =
-    let store : StoreV = record { node = c.args.self.now; rows = g.R.Rows.contents c.args.rows.now } in
+    let store : NodeAndRows = record { node = c.args.self.now; rows = g.R.Rows.contents c.args.rows.now } in
     let plan = c.unchanging.result in
     subst (λ (request : Option Ask). IsPlanOf store (serve_request store request c.args.now) plan) c.in-None.ensures
     (plans_nothing store (serve_request store None c.args.now) plan c.unchanging.ensures.change refl (ap (λ h. h.records) c.unchanging.ensures.handled ∙ c.nothing.ensures.records) (ap (λ h. h.outputs) c.unchanging.ensures.handled ∙ c.nothing.ensures.outputs))

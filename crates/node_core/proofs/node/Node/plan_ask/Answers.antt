@@ -1,6 +1,6 @@
 use Rattle.std.proofs.Common.{◌∙◌, sym, ap, subst, ℕ, ◌<◌}
 use Rattle.mds_base.specs.declared.limits.TheConstants.{DIRECTORIES}
-use Rattle.node_core.specs.Nodes.{StoreV}
+use Rattle.node_core.specs.Nodes.{NodeAndRows}
 use Rattle.node_core.proofs.Calls.{dir_of_change, dir_of_look}
 use Rattle.node_core.proofs.Planned.{plans_nothing}
 use Rattle.node_core.proofs.Served.{not_served}
@@ -14,7 +14,7 @@ plan_look-requires-clause-fits g c = subst (λ (d : ℕ). d < DIRECTORIES) (dir_
 
 pub returns-in-NothingYet-clause-ok : goal.returns-in-NothingYet-clause-ok
 returns-in-NothingYet-clause-ok g c =
-    let store : StoreV = record { node = c.args.self.now; rows = g.R.Rows.contents c.args.rows.now } in
+    let store : NodeAndRows = record { node = c.args.self.now; rows = g.R.Rows.contents c.args.rows.now } in
     let served = not_served store c.args.ask.now c.args.now (sym c.in-NothingYet.ensures) in
     plans_nothing store _ c.unchanging.result c.unchanging.ensures.change (ap (λ v. v.store) (sym served))
     (ap (λ h. h.records) c.unchanging.ensures.handled ∙ c.nothing.ensures.records ∙ ap (λ v. v.records) (sym served))

@@ -1,6 +1,6 @@
 use Rattle.std.proofs.Common.{◌≡◌, ◌∙◌, sym, ap, ◌∷◌, [], ◌+◌, true}
 use Rattle.std.specs.FinMap as map
-use Rattle.node_core.specs.Nodes.{NodeV, StoreV, row_in, owns}
+use Rattle.node_core.specs.Nodes.{NodeV, NodeAndRows, row_in, owns}
 use Rattle.node_core.specs.Rules.{found}
 use Rattle.node_core.specs.Serving.{answer_to}
 use Rattle.node_core.proofs.Served.{look_own}
@@ -11,7 +11,7 @@ pub returns-clause-ok : goal.returns-clause-ok
 unfolding row_in
 returns-clause-ok g c =
     let rows = g.R.Rows.contents c.args.rows.now in
-    let store : StoreV = record { node = c.args.self.now; rows = rows } in
+    let store : NodeAndRows = record { node = c.args.self.now; rows = rows } in
     let ask = c.args.ask.now in
     let dir = c.args.dir in
     let name = c.args.name.now in

@@ -3,7 +3,7 @@ use Rattle.std.specs.FinMap as map
 use Rattle.mds_base.specs.declared.reply.Reply.TheVariants.{Said}
 use Rattle.records.specs.declared.record.Record.TheVariants.{Served}
 use Rattle.node_core.specs.declared.plan.Plan.{Plan}
-use Rattle.node_core.specs.Nodes.{NodeV, StoreV, row_in, rows_after}
+use Rattle.node_core.specs.Nodes.{NodeV, NodeAndRows, row_in, rows_after}
 use Rattle.mds_base.specs.RowKeys.{edited_rows}
 use Rattle.node_core.specs.Rules.{said_of}
 use Rattle.node_core.specs.Serving.{answer_to}
@@ -15,7 +15,7 @@ pub returns-clause-ok : goal.returns-clause-ok
 unfolding row_in
 returns-clause-ok g c =
     let rows = g.R.Rows.contents c.args.rows.now in
-    let store : StoreV = record { node = c.args.self.now; rows = rows } in
+    let store : NodeAndRows = record { node = c.args.self.now; rows = rows } in
     let ask = c.args.ask.now in
     let dir = c.args.dir in
     let name = c.args.name.now in
