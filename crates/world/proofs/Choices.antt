@@ -1,8 +1,9 @@
 -- Choices that are decided: whether two keys are one, and what a judgement says of the kept number.
-use Rattle.std.proofs.Common.{◌≡◌, refl, ℕ, ◌<◌, ◌≤◌, Bool, true, false, cond, Option, Some, None, inl, inr, arith, nat_lt, ◌==◌}
+use Rattle.std.proofs.Common.{◌≡◌, refl, ℕ, suc, ◌<◌, ◌≤◌, Bool, true, false, cond, Option, Some, None, inl, inr, arith, nat_lt, ◌==◌}
 use Rattle.std.specs.Prelude.{◌⊎◌}
 use Rattle.std.specs.Cmp.{nat_cmp_total}
 use Rattle.std.proofs.lemmas.Map.Lookups.{exact_unsigned}
+use Rattle.std.proofs.lemmas.Bool.{eqb-true}
 use Rattle.std.proofs.lemmas.Bool.Decides.{nat_tests}
 use Rattle.mds_base.specs.declared.reply.Final.{Final}
 use Rattle.node_core.proofs.Keys.{same_or_apart}
@@ -25,6 +26,9 @@ three_or_apart a b c x y z =
         ]
       ]
     ]
+
+pub two_places : (n : ℕ) → (suc (suc n) == 1) ≡ true → ⊥
+two_places n e = let s : suc (suc n) ≡ 1 = eqb-true (suc (suc n)) 1 e in absurd (omega arith)
 
 pub pair_same : {A B : Type 0} {a c : A} {b d : B} → a ≡ c → b ≡ d → ◌≡◌ {A = A × B} (a, b) (c, d)
 pair_same e f = λ i. (e i, f i)

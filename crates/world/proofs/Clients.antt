@@ -1,15 +1,19 @@
 -- What clients do keeps the invariant: they open calls, send them again, merge bitmaps, take answers and give up.
-use Rattle.std.proofs.Common.{◌≡◌, ◌∙◌, sym, ap, subst, refl, ℕ, zero, suc, ◌+◌, ◌≤◌, Bool, true, false, List, [], ◌∷◌, ◌++◌, Some, unwrap_or, inl, inr, arith}
-use Rattle.std.specs.Prelude.{◌⊎◌, ◌||◌, slice_set}
+use Rattle.std.proofs.Common.{◌≡◌, ◌∙◌, sym, ap, subst, refl, ℕ, zero, suc, ◌+◌, ◌≤◌, true, List, [], ◌∷◌, ◌++◌, Option, Some, None, unwrap_or, inl, inr, arith}
+use Rattle.std.specs.Prelude.{slice_set}
 use Rattle.std.specs.List.{slice_get}
 use Rattle.std.specs.FinSet as set
 use Rattle.std.specs.Cmp.{nat_cmp_total}
 use Rattle.std.proofs.lemmas.Map.Lookups.{exact_unsigned}
+use Rattle.std.proofs.lemmas.Bool.{or_cases}
+use Rattle.mds_base.specs.declared.ask.Ask.{Ask}
 use Rattle.mds_base.specs.declared.call.Call.{Call}
 use Rattle.mds_base.specs.declared.reply.Reply.{Reply}
 use Rattle.mds_base.proofs.Maps.{insert_apart}
 use Rattle.records.specs.declared.msg.Msg.{Msg}
-use Rattle.records.specs.declared.msg.Msg.TheVariants.{Request, Redirect, Answer, Busy, Held, Page, Closed, Transfer, Installed}
+use Rattle.records.specs.declared.msg.Msg.TheVariants.{Answer}
+use Rattle.records.specs.Messages.{server_of_msg}
+use Rattle.node_core.specs.Rules.{request_in}
 use Rattle.bitmap.specs.Bits.{Bits, has}
 use Rattle.node_core.proofs.Views.{insert_here}
 use Rattle.client_core.specs.declared.client.Pending.{Pending}
@@ -20,7 +24,8 @@ use Rattle.mds_base.specs.Lists.{Among}
 use Rattle.world.specs.Histories.{IssuedV, AnsweredV, Trace}
 use Rattle.mds_base.proofs.Grow.{get_set, set_here, set_apart, among_more, among_last, among_map, each_push, each_map, each_set, once_push, once_same, pred_same}
 use Rattle.world.proofs.Choices.{nat_or_apart}
-use Rattle.world.proofs.Invariant.{Inv, Sizes, CallsKept, RequestTrue, IsAnsweredBy, AreKept, IsKeptPart, seq_in, seq_or}
+use Rattle.world.proofs.Keepers.{Keepers, keepers, IsKept}
+use Rattle.world.proofs.Invariant.{Inv, Sizes, CallsKept, AskTrue, RequestTrue, IsAnsweredBy, AreKept, seq_in, seq_or}
 use Rattle.world.proofs.Steps.{with_seat, open_at, close_at, MayOpen, MayBump, MayMerge, MayClose}
 
 pub seq_was : (clients : List ClientState) (k : ℕ) (seat : ClientState) → slice_get clients k ≡ Some seat → seq_in clients (suc k) ≡ seat.client.seq
@@ -84,7 +89,7 @@ module _ (t : Trace) (inv : Inv t) (k : ℕ) (seat new : ClientState) (is : slic
     clients_are = each_set k new inv.sizes.clients_are (record { number = number ∙ old.number; setup' = setup ∙ old.setup' });
   }
 
-  seat_keeps : new.client.number ≡ seat.client.number → new.client.setup ≡ seat.client.setup → AreKept new.client → Inv (with_seat t k new)
+  seat_keeps : new.client.number ≡ seat.client.number → new.client.setup ≡ seat.client.setup → AreKept keepers new.client → Inv (with_seat t k new)
   seat_keeps number setup kept = record {
     sizes = sizes_set number setup;
     rows = inv.rows;
@@ -108,10 +113,6 @@ pub quit_keeps : (t : Trace) → Inv t → (k : ℕ) (seat : ClientState) → sl
 quit_keeps t inv k seat is =
     seat_keeps t inv k seat (record { client = seat.client; quit = true }) is refl (λ p e. (p, e, refl)) refl refl (inv.bits.bits_kept.at k seat is)
 
-or_true : (a b : Bool) → (a || b) ≡ true → (a ≡ true) ⊎ (b ≡ true)
-or_true true b e = inl refl
-or_true false b e = inr e
-
 merged_here : (client : ClientV) (dir : ℕ) (bits : Bits) → bits_in (merged client dir bits) dir ≡ set.union (bits_in client dir) bits
 merged_here client dir bits = ap (λ o. unwrap_or o zero_bits) (insert_here nat_cmp_total client.bits dir (set.union (bits_in client dir) bits))
 
@@ -119,32 +120,28 @@ merged_apart : (client : ClientV) (dir : ℕ) (bits : Bits) (other : ℕ) → (o
 merged_apart client dir bits other differ = ap (λ o. unwrap_or o zero_bits) (insert_apart nat_cmp_total exact_unsigned client.bits dir (set.union (bits_in client dir) bits) other differ)
 
 -- a bitmap whose numbers are kept may be merged
-merged_kept : (client : ClientV) (dir : ℕ) (bits : Bits) → AreKept client → ((part : ℕ) → has bits part ≡ true → IsKeptPart part) → AreKept (merged client dir bits)
-merged_kept client dir bits own more d part e = elim (nat_or_apart d dir) [
+merged_kept : (who : Keepers) (client : ClientV) (dir : ℕ) (bits : Bits) → AreKept who client → ((part : ℕ) → has bits part ≡ true → IsKept who dir part) → AreKept who (merged client dir bits)
+merged_kept who client dir bits own more d part e = elim (nat_or_apart d dir) [
   | inl h ↦
       let at : has (set.union (bits_in client dir) bits) part ≡ true = sym (ap (λ b. has b part) (ap (bits_in (merged client dir bits)) h ∙ merged_here client dir bits)) ∙ e in
-      elim (or_true (has (bits_in client dir) part) (has bits part) (sym (set.contains-union nat_cmp_total (bits_in client dir) bits part) ∙ at)) [
-        | inl l ↦ own dir part l
-        | inr r ↦ more part r
+      elim (or_cases (has (bits_in client dir) part) (has bits part) (sym (set.contains-union nat_cmp_total (bits_in client dir) bits part) ∙ at)) [
+        | inl l ↦ subst (λ g. IsKept who g part) (sym h) (own dir part l)
+        | inr r ↦ subst (λ g. IsKept who g part) (sym h) (more part r)
       ]
   | inr h ↦ own d part (sym (ap (λ b. has b part) (merged_apart client dir bits d h)) ∙ e)
 ]
 
-pub merge_keeps : (t : Trace) → Inv t → (k : ℕ) (seat : ClientState) (dir : ℕ) (bits : Bits) → MayMerge t k seat bits → Inv (with_seat t k (record { client = merged seat.client dir bits; quit = seat.quit }))
+pub merge_keeps : (t : Trace) → Inv t → (k : ℕ) (seat : ClientState) (dir : ℕ) (bits : Bits) → MayMerge t k seat dir bits → Inv (with_seat t k (record { client = merged seat.client dir bits; quit = seat.quit }))
 merge_keeps t inv k seat dir bits may =
     seat_keeps t inv k seat (record { client = merged seat.client dir bits; quit = seat.quit }) may.is refl (λ p e. (p, e, refl)) refl refl
-    (merged_kept seat.client dir bits (inv.bits.bits_kept.at k seat may.is) may.kept)
+    (merged_kept keepers seat.client dir bits (inv.bits.bits_kept.at k seat may.is) may.kept)
 
-request_more : (count : ℕ) (issued more : List IssuedV) (m : Msg) → RequestTrue count issued m → RequestTrue count (issued ++ more) m
-request_more count issued more (Request to ask cursor) r = record { issue = among_more more r.issue; part = r.part; kept = r.kept; there = r.there }
-request_more count issued more (Redirect client seq attempt dir bits) r = tt
-request_more count issued more (Transfer to dir part depth index pieces bits sessions top rows) r = tt
-request_more count issued more (Answer client seq attempt reply) r = tt
-request_more count issued more (Busy client seq attempt part depth) r = tt
-request_more count issued more (Held client seq attempt until) r = tt
-request_more count issued more (Page client seq attempt rows next) r = tt
-request_more count issued more (Closed client seq attempt part epoch) r = tt
-request_more count issued more (Installed to dir part child) r = tt
+ask_more : (who : Keepers) (count : ℕ) (issued more : List IssuedV) (to : Option ℕ) (o : Option Ask) → AskTrue who count issued to o → AskTrue who count (issued ++ more) to o
+ask_more who count issued more to None r = tt
+ask_more who count issued more to (Some ask) r = record { issue = among_more more r.issue; part = r.part; kept = r.kept; there = r.there }
+
+request_more : (who : Keepers) (count : ℕ) (issued more : List IssuedV) (m : Msg) → RequestTrue who count issued m → RequestTrue who count (issued ++ more) m
+request_more who count issued more m r = ask_more who count issued more (server_of_msg m) (request_in m) r
 
 module _ (t : Trace) (inv : Inv t) (k : ℕ) (seat : ClientState) (call : Call) (may : MayOpen t k seat call) where
   abbrev opened : ClientState
@@ -209,7 +206,7 @@ module _ (t : Trace) (inv : Inv t) (k : ℕ) (seat : ClientState) (call : Call) 
     legal = inv.legal;
     sessions = inv.sessions;
     messages = record {
-      request_true = each_map inv.messages.request_true (λ j m r. request_more t.world.setup.servers t.past.issued (issue ∷ []) m r);
+      request_true = each_map inv.messages.request_true (λ j m r. request_more keepers t.world.setup.servers t.past.issued (issue ∷ []) m r);
       answer_true = inv.messages.answer_true;
     };
     answers = inv.answers;
@@ -223,7 +220,7 @@ module _ (t : Trace) (inv : Inv t) (k : ℕ) (seat : ClientState) (pending : Pen
   shut = record { client = closed seat.client; quit = seat.quit }
 
   abbrev answer : AnsweredV
-  answer = record { client = suc k; seq = seat.client.seq; call = pending.call; reply = reply; place = place; at = t.past.count }
+  answer = record { client = suc k; seq = seat.client.seq; call = pending.call; reply = reply; message = place; at = t.past.count }
 
   none_open : (p : Pending) → shut.client.pending ≡ Some p → (before : Pending) × (seat.client.pending ≡ Some before) × (before.call ≡ p.call)
   none_open p e = cc

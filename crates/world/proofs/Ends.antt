@@ -6,7 +6,7 @@ use Rattle.std.proofs.lemmas.List.{append-nil}
 use Rattle.std.proofs.lemmas.Bool.{and_from, or_left, or_right, eq-eqb}
 use Rattle.records.specs.declared.record.Record.{Record}
 use Rattle.records.specs.declared.record.Record.TheVariants.{Head, Opened, Begin, Install, End, Served}
-use Rattle.node_core.specs.Nodes.{StoreV}
+use Rattle.node_core.specs.Nodes.{NodeAndRows}
 use Rattle.node_core.specs.Serving.{ServedV, may_follow, replayed, replayed_all, restarted}
 use Rattle.world.specs.declared.event.Event.{Event}
 use Rattle.world.specs.declared.event.Event.TheVariants.{Issue, Resend, Serve, Miss, Take, Cached, Hint, Remind, Stop, Restart, Tick, GiveUp, Verdict}
@@ -17,7 +17,7 @@ use Rattle.world.specs.Worlds.{WorldV, store_of}
 use Rattle.world.specs.Events as events
 use Rattle.world.specs.Events.{enabled, step, all_enabled, can_restart, up_with}
 use Rattle.world.specs.Histories as past
-use Rattle.world.specs.Histories.{History, Trace, MadeV, happens, run, counted}
+use Rattle.world.specs.Histories.{History, Trace, MadeV, happens, run, weighed}
 use Rattle.world.specs.Law.{closing}
 use Rattle.mds_base.proofs.Grow.{set_here, set_apart}
 use Rattle.world.proofs.Choices.{nat_or_apart}
@@ -77,13 +77,13 @@ replayed_grows h (Install dir part depth bitmap sessions rows) b = stays_so h
 replayed_grows h (End dir part depth) b = stays_so h
 replayed_grows h (Head format servers server threshold) b = stays_so h
 
-replays_grow : (items : List Record) (h : History) (store : StoreV) → GrowsTo h (past.replayed_all h store items)
+replays_grow : (items : List Record) (h : History) (store : NodeAndRows) → GrowsTo h (past.replayed_all h store items)
 replays_grow [] h store = stays_so h
 replays_grow (item ∷ items) h store =
     grows_on h (past.replayed_one h item (may_follow store item)) _ (replayed_grows h item (may_follow store item)) (replays_grow items (past.replayed_one h item (may_follow store item)) (replayed store item))
 
-counted_grows : (a b : History) → GrowsTo a b → GrowsTo a (counted b)
-counted_grows a b g = record { start = g.start; more = g.more; made = g.made }
+weighed_grows : (a b : History) → GrowsTo a b → GrowsTo a (weighed 1 b)
+weighed_grows a b g = record { start = g.start; more = g.more; made = g.made }
 
 restart_grows : (h : History) (kept : ℕ) (o : Option ServerState) → GrowsTo h (past.after_restart h kept o)
 restart_grows h kept None = stays_so h
@@ -146,7 +146,7 @@ closing_one keep state states s t here false down first second =
     record {
       enabled = and_from (enabled t.world (Restart s kept)) (all_enabled t'.world (closing keep states (s + 1))) (can keep s (slice_get t.world.servers s) state here down) r.enabled;
       up = r.up;
-      grows = grows_on t.past t'.past (run t' (closing keep states (s + 1))).past (counted_grows t.past (past.after_restart t.past kept (slice_get t.world.servers s)) (restart_grows t.past kept (slice_get t.world.servers s))) r.grows;
+      grows = grows_on t.past t'.past (run t' (closing keep states (s + 1))).past (weighed_grows t.past (past.after_restart t.past kept (slice_get t.world.servers s)) (restart_grows t.past kept (slice_get t.world.servers s))) r.grows;
     }
 
 pub closing_ends : (keep : ℕ → Bool) (states : List ServerState) (s : ℕ) (t : Trace) → Closes t s states → ClosedBy t (closing keep states s)

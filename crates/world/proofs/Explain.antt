@@ -1,8 +1,8 @@
 -- A run that the invariant holds of is explained.
-use Rattle.std.proofs.Common.{◌≡◌, ◌∙◌, sym, ap, subst, refl, ℕ, suc, ◌==◌, Bool, true, false, cond, List, [], ◌∷◌, ◌++◌, Some, inl, inr, arith, filter, append_assoc}
+use Rattle.std.proofs.Common.{◌≡◌, ◌∙◌, sym, ap, subst, refl, ℕ, suc, ◌==◌, Bool, true, false, cond, List, [], ◌∷◌, ◌++◌, Some, inl, inr, filter, append_assoc}
 use Rattle.std.specs.Prelude.{◌⊎◌}
 use Rattle.std.specs.List.{slice_get}
-use Rattle.std.proofs.lemmas.Bool.Decides.{nat_tests}
+use Rattle.std.proofs.lemmas.Bool.{eqb-true, eq-eqb}
 use Rattle.mds_base.specs.declared.call.Call.{Call}
 use Rattle.mds_base.specs.declared.call.Call.TheVariants.{Lookup}
 use Rattle.mds_base.specs.declared.entry.Entry.{Entry}
@@ -37,12 +37,6 @@ legal_filter start p [] front look legal = legal
 legal_filter start p (x ∷ xs) front look legal =
     legal_of start p front x xs (p x) refl (look 0 x refl) (λ f h. legal_filter start p xs f (λ k y at px. look (suc k) y at px) h) legal
 
-same_place : (a b : ℕ) → (a == b) ≡ true → a ≡ b
-same_place a b e = grind (arith, nat_tests)
-
-self_place : (a : ℕ) → (a == a) ≡ true
-self_place a = grind (arith, nat_tests)
-
 module _ (t : Trace) (inv : Inv t) where
   abbrev p : MadeV → Bool
   p = stands t.past.answered
@@ -59,12 +53,12 @@ module _ (t : Trace) (inv : Inv t) where
       (record { client = a.good.client ∙ same.client ∙ sym b.good.client; seq = a.good.seq ∙ same.seq ∙ sym b.good.seq }) in
       sym a.good.call ∙ ap (λ (u : IssuedV). u.call) one ∙ b.good.call
 
-  taker : (x : MadeV) (place k : ℕ) → slice_get t.past.made k ≡ Some x → x.kind ≡ Looked place → stands_as t.past.answered x.kind ≡ true → Among t.past.answered (λ j a. (a.place ≡ place) × (a.client ≡ x.entry.client) × (a.seq ≡ x.entry.seq))
+  taker : (x : MadeV) (place k : ℕ) → slice_get t.past.made k ≡ Some x → x.kind ≡ Looked place → stands_as t.past.answered x.kind ≡ true → Among t.past.answered (λ j a. (a.message ≡ place) × (a.client ≡ x.entry.client) × (a.seq ≡ x.entry.seq))
   taker x place k at kind passes =
       let taken : is_taken t.past.answered place ≡ true = subst (λ w. stands_as t.past.answered w ≡ true) kind passes in
       let sent : IsSentAs t.world.sent x (Looked place) = subst (IsSentAs t.world.sent x) kind (inv.made.looked_sent.at k x at) in
-      let r = any_true (λ (a : AnsweredV). a.place == place) t.past.answered taken in
-      let there : r.item.place ≡ place = same_place r.item.place place r.good in
+      let r = any_true (λ (a : AnsweredV). a.message == place) t.past.answered taken in
+      let there : r.item.message ≡ place = eqb-true r.item.message place r.good in
       let h = inv.answers.answered_taken.at r.place r.item r.is in
       let m : Some (Answer r.item.client r.item.seq h.0 r.item.reply) ≡ Some (Answer x.entry.client x.entry.seq sent.0 x.entry.reply) = sym h.1 ∙ ap (slice_get t.world.sent) there ∙ sent.1 in
       record { place = r.place; item = r.item; is = r.is; good = (there, cc, cc) }
@@ -84,13 +78,13 @@ module _ (t : Trace) (inv : Inv t) where
       let b = taker y r j ej ky py in
       let one : a.item ≡ b.item = once_same inv.calls.answered_once a.place b.place a.item b.item a.is b.is
       (record { client = a.good.1 ∙ same.client ∙ sym b.good.1; seq = a.good.2 ∙ same.seq ∙ sym b.good.2 }) in
-      let qr : q ≡ r = sym a.good.0 ∙ ap (λ (u : AnsweredV). u.place) one ∙ b.good.0 in
+      let qr : q ≡ r = sym a.good.0 ∙ ap (λ (u : AnsweredV). u.message) one ∙ b.good.0 in
       inv.made.looked_once.same i j x y ei ej (record { place = q; left = kx; right = ky ∙ ap Looked (sym qr) })
 
-  stands_kind : (j : ℕ) (a : AnsweredV) → slice_get t.past.answered j ≡ Some a → (e : MadeV) → (e.kind ≡ Change) ⊎ (e.kind ≡ Looked a.place) → p e ≡ true
+  stands_kind : (j : ℕ) (a : AnsweredV) → slice_get t.past.answered j ≡ Some a → (e : MadeV) → (e.kind ≡ Change) ⊎ (e.kind ≡ Looked a.message) → p e ≡ true
   stands_kind j a at e kind = elim kind [
     | inl h ↦ ap (stands_as t.past.answered) h
-    | inr h ↦ ap (stands_as t.past.answered) h ∙ any_from (λ (b : AnsweredV). b.place == a.place) t.past.answered j a at (self_place a.place)
+    | inr h ↦ ap (stands_as t.past.answered) h ∙ any_from (λ (b : AnsweredV). b.message == a.message) t.past.answered j a at (eq-eqb a.message a.message refl)
   ]
 
   pub explained : IsExplained t.past

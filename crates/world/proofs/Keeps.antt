@@ -20,4 +20,4 @@ keeps (Quit k seat) t inv h = quit_keeps t inv k seat h
 keeps (Down s state doubt) t inv h = down_keeps t inv s state doubt h
 keeps (Up s state) t inv h = up_keeps t inv s state h
 keeps (Tick by) t inv h = tick_keeps t inv by
-keeps Count t inv h = count_keeps t inv
+keeps (Count n) t inv h = count_keeps n t inv

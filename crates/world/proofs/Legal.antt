@@ -1,27 +1,18 @@
 -- A legal history that grows at its end.
-use Rattle.std.proofs.Common.{◌≡◌, ◌∙◌, sym, ap, subst, refl, ℕ, ◌≤◌, false, List, [], ◌∷◌, ◌++◌, nat_eq, inl, inr}
+use Rattle.std.proofs.Common.{◌≡◌, ◌∙◌, sym, ap, subst, ℕ, ◌≤◌, false, List, [], ◌∷◌, ◌++◌, nat_eq, inl, inr}
 use Rattle.std.specs.Prelude.{◌⊎◌}
 use Rattle.std.specs.List.{AllByRecursion, IsDistinct}
-use Rattle.std.proofs.lemmas.List.{append-nil}
+use Rattle.std.proofs.lemmas.List.{append-nil, map-append}
 use Rattle.mds_base.specs.declared.entry.Entry.{Entry}
 use Rattle.mds_base.specs.Entries.{Entries}
 use Rattle.mds_base.specs.PlainRules.{Allows, after, given_by}
 use Rattle.mds_base.specs.History.{IsLegal, EachAllowed, given, map_after}
+use Rattle.mds_base.proofs.Lists.{all_push, distinct_push}
 use Rattle.mds_base.proofs.Histories.{leads_on, given-append, allowed_both}
 use Rattle.world.specs.Histories.{MadeV, entries_of}
 
 pub entries_push : (made : List MadeV) (e : MadeV) → entries_of (made ++ e ∷ []) ≡ entries_of made ++ e.entry ∷ []
-entries_push [] e = refl
-entries_push (x ∷ made) e = ap (λ es. x.entry ∷ es) (entries_push made e)
-
-pub all_push : {X : Type 0} (P : X → Type 0) (xs : List X) (y : X) → AllByRecursion P xs → P y → AllByRecursion P (xs ++ y ∷ [])
-all_push P [] y all new = (new, tt)
-all_push P (x ∷ xs) y all new = (all.0, all_push P xs y all.1 new)
-
-distinct_push : (xs : List ℕ) (n : ℕ) → IsDistinct nat_eq xs → AllByRecursion (λ x. nat_eq x n ≡ false) xs → IsDistinct nat_eq (xs ++ n ∷ [])
-unfolding IsDistinct
-distinct_push [] n distinct apart = (tt, tt)
-distinct_push (x ∷ xs) n distinct apart = (all_push (λ y. nat_eq x y ≡ false) xs n distinct.0 apart.0, distinct_push xs n distinct.1 apart.1)
+entries_push made e = map-append (λ (x : MadeV). x.entry) made (e ∷ [])
 
 -- what an entry at the end of a history gives: nothing, or a number that is at least 2 and was not given before
 pub record GivesFresh (history : List Entry) (number : ℕ) : Type 0 where

@@ -1,3 +1,4 @@
+pub mod Keepers
 pub mod Invariant
 pub mod Tables
 pub mod Choices
@@ -11,6 +12,7 @@ pub mod Clients
 pub mod Servers
 pub mod Explain
 pub mod Keeps
+pub mod Reaches
 pub mod Targets
 pub mod Outcomes
 pub mod Restarts
@@ -18,6 +20,7 @@ pub mod Serves
 pub mod Happens
 pub mod Starts
 pub mod Ends
+pub mod Owners
 pub mod Theorem
 pub mod Known
 pub mod Ranges

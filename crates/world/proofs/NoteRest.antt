@@ -13,7 +13,7 @@ use Rattle.mds_base.specs.History.{IsLegal, map_after, given}
 use Rattle.records.specs.declared.msg.Msg.{Msg}
 use Rattle.records.specs.declared.msg.Msg.TheVariants.{Request, Redirect, Answer, Busy, Held, Page, Closed, Transfer, Installed}
 use Rattle.records.specs.declared.record.Record.{Record}
-use Rattle.node_core.specs.Nodes.{StoreV, row_in, end_of_numbers}
+use Rattle.node_core.specs.Nodes.{NodeAndRows, row_in, part_for, end_of_numbers}
 use Rattle.node_core.specs.Rules.{said_in, said_of}
 use Rattle.node_core.specs.Serving.{carried}
 use Rattle.node_core.proofs.Views.{noted_server, noted_setup, noted_next}
@@ -25,7 +25,9 @@ use Rattle.mds_base.proofs.Grow.{among_more, each_push, each_map, each_set, once
 use Rattle.world.proofs.Choices.{nat_or_apart}
 use Rattle.world.proofs.Stores.{store_here, store_apart}
 use Rattle.world.proofs.Tables.{allowed_change, given_change}
-use Rattle.world.proofs.Legal.{entries_push, all_push, GivesFresh, GivesWell, given_push, legal_push, map_push}
+use Rattle.mds_base.proofs.Lists.{all_push}
+use Rattle.world.proofs.Legal.{entries_push, GivesFresh, GivesWell, given_push, legal_push, map_push}
+use Rattle.world.proofs.Keepers.{keepers}
 use Rattle.world.proofs.Invariant.{Inv, Sizes, LegalKept, MadeKept, MessagesKept, AnswerTrue, AnswersKept, NumbersKept, IsWithinRange, IsGivenBelow, DoubtKept, Follows, MayCarry, store_in}
 use Rattle.world.proofs.Steps.{noted_state, note_at}
 use Rattle.world.proofs.Note.{issue, is_new, was, before, rows_note, sessions_note}
@@ -47,7 +49,7 @@ all_map P Q [] f all = tt
 all_map P Q (x ∷ xs) f all = (f x all.0, all_map P Q xs f all.1)
 
 -- a number that a server may give next was not given
-pub not_given : (count : ℕ) (stores : ℕ → StoreV) (s number m : ℕ) → s < count → number ≡ (stores s).node.next → s * SERVER_DIRECTORIES ≤ number → number < (s + 1) * SERVER_DIRECTORIES → IsGivenBelow count stores m → nat_eq m number ≡ false
+pub not_given : (count : ℕ) (stores : ℕ → NodeAndRows) (s number m : ℕ) → s < count → number ≡ (stores s).node.next → s * SERVER_DIRECTORIES ≤ number → number < (s + 1) * SERVER_DIRECTORIES → IsGivenBelow count stores m → nat_eq m number ≡ false
 not_given count stores s number m lt is from to below =
     elim (nat_or_apart m number) [
       | inl e ↦
@@ -67,11 +69,14 @@ module _ (t : Trace) (inv : Inv t) (s : ℕ) (state : ServerState) (is : slice_g
   abbrev servers : ℕ
   servers = t.world.setup.servers
 
-  abbrev store : StoreV
+  abbrev store : NodeAndRows
   store = store_of state
 
   abbrev said : Final
   said = said_in (store_of state) call dir name
+
+  abbrev part : ℕ
+  part = part_for state.node dir name
 
   abbrev entry : MadeV
   entry = record { entry = record { client = client; seq = seq; call = call; reply = Said said }; kind = Change; at = t.past.count }
@@ -118,7 +123,7 @@ module _ (t : Trace) (inv : Inv t) (s : ℕ) (state : ServerState) (is : slice_g
       let b = s_below in
       let m = room in
       let w = was t inv s state is client seq call dir name may in
-      let next : store.node.next ≡ (store_in t.world.servers s).node.next = sym (ap (λ (v : StoreV). v.node.next) w) in
+      let next : store.node.next ≡ (store_in t.world.servers s).node.next = sym (ap (λ (v : NodeAndRows). v.node.next) w) in
       record {
         from_two = omega (arith, r.from);
         apart = all_map (IsGivenBelow servers (store_in t.world.servers)) (λ x. nat_eq x store.node.next ≡ false) (given (entries_of t.past.made))
@@ -126,7 +131,7 @@ module _ (t : Trace) (inv : Inv t) (s : ℕ) (state : ServerState) (is : slice_g
       }
 
   gives : GivesWell (entries_of t.past.made) (given_by call (Said said))
-  gives = elim (given_change call (row_in store.rows dir 0 name) store.node.next dir name may.asked) [
+  gives = elim (given_change call (row_in store.rows dir part name) store.node.next dir name may.asked) [
     | inl none ↦ inl none
     | inr one ↦ inr (store.node.next, one, fresh)
   ]
@@ -141,7 +146,7 @@ module _ (t : Trace) (inv : Inv t) (s : ℕ) (state : ServerState) (is : slice_g
     now = ap (λ m. after m call (Said said)) inv.legal.now ∙ sym (map_push t.past.start (entries_of t.past.made) entry.entry) ∙ ap (map_after t.past.start) (sym (entries_push t.past.made entry));
   }
 
-  messages_note : MessagesKept servers t.world.sent t.past.issued (t.past.made ++ entry ∷ [])
+  messages_note : MessagesKept keepers servers t.world.sent t.past.issued (t.past.made ++ entry ∷ [])
   messages_note = record {
     request_true = inv.messages.request_true;
     answer_true = each_map inv.messages.answer_true (λ k m a. answer_more t.past.made (entry ∷ []) k m a);
@@ -153,9 +158,9 @@ module _ (t : Trace) (inv : Inv t) (s : ℕ) (state : ServerState) (is : slice_g
     answered_made = each_map inv.answers.answered_made (λ k a m. among_more (entry ∷ []) m);
   }
 
-  module _ (new : ℕ → StoreV) (here : new s ≡ carried store client seq call dir name) (apart : (k : ℕ) → (k ≡ s → ⊥) → new k ≡ store_in t.world.servers k) where
+  module _ (new : ℕ → NodeAndRows) (here : new s ≡ carried store client seq call dir name) (apart : (k : ℕ) → (k ≡ s → ⊥) → new k ≡ store_in t.world.servers k) where
     next_here : (new s).node.next ≡ store.node.next + length (given_by call (Said said))
-    next_here = ap (λ (v : StoreV). v.node.next) here ∙ noted_next store.node store.rows dir 0 name client seq call said
+    next_here = ap (λ (v : NodeAndRows). v.node.next) here ∙ noted_next store.node store.rows dir part name client seq call said
 
     given_few : length (given_by call (Said said)) ≤ 1
     given_few = elim gives [
@@ -175,10 +180,10 @@ module _ (t : Trace) (inv : Inv t) (s : ℕ) (state : ServerState) (is : slice_g
     below_new number below k lt from to = elim (nat_or_apart k s) [
       | inl e ↦
           let old : number < (store_in t.world.servers s).node.next = below s s_below (subst (λ j. j * SERVER_DIRECTORIES ≤ number) e from) (subst (λ j. number < (j + 1) * SERVER_DIRECTORIES) e to) in
-          let w = ap (λ (v : StoreV). v.node.next) (was t inv s state is client seq call dir name may) in
+          let w = ap (λ (v : NodeAndRows). v.node.next) (was t inv s state is client seq call dir name may) in
           let n = next_here in
           subst (λ j. number < (new j).node.next) (sym e) (omega (arith, old, w, n))
-      | inr e ↦ subst (λ (v : StoreV). number < v.node.next) (sym (apart k e)) (below k lt from to)
+      | inr e ↦ subst (λ (v : NodeAndRows). number < v.node.next) (sym (apart k e)) (below k lt from to)
     ]
 
     below_fresh : given_by call (Said said) ≡ store.node.next ∷ [] → IsGivenBelow servers new store.node.next
@@ -197,7 +202,7 @@ module _ (t : Trace) (inv : Inv t) (s : ℕ) (state : ServerState) (is : slice_g
           let all = all_map (IsGivenBelow servers (store_in t.world.servers)) (IsGivenBelow servers new) (given (entries_of t.past.made)) below_new inv.numbers.given_below in
           let same : given (entries_of (t.past.made ++ entry ∷ [])) ≡ given (entries_of t.past.made) ++ given_by call (Said said) = ap given (entries_push t.past.made entry) ∙ given_push (entries_of t.past.made) entry.entry in
           subst (AllByRecursion (IsGivenBelow servers new)) (sym same)
-          (elim (given_change call (row_in store.rows dir 0 name) store.node.next dir name may.asked) [
+          (elim (given_change call (row_in store.rows dir part name) store.node.next dir name may.asked) [
             | inl none ↦ subst (λ ns. AllByRecursion (IsGivenBelow servers new) (given (entries_of t.past.made) ++ ns)) (sym none) (subst (AllByRecursion (IsGivenBelow servers new)) (sym (append-nil (given (entries_of t.past.made)))) all)
             | inr one ↦ subst (λ ns. AllByRecursion (IsGivenBelow servers new) (given (entries_of t.past.made) ++ ns)) (sym one) (all_push (IsGivenBelow servers new) (given (entries_of t.past.made)) store.node.next all (below_fresh one))
           ]);
@@ -214,8 +219,8 @@ module _ (t : Trace) (inv : Inv t) (s : ℕ) (state : ServerState) (is : slice_g
           some_servers = inv.sizes.some_servers;
           server_count = length_set t.world.servers s next_state ∙ inv.sizes.server_count;
           servers_are = each_set s next_state inv.sizes.servers_are (record {
-            server = noted_server store.node store.rows dir 0 name client seq call said ∙ old.server;
-            setup' = noted_setup store.node store.rows dir 0 name client seq call said ∙ old.setup';
+            server = noted_server store.node store.rows dir part name client seq call said ∙ old.server;
+            setup' = noted_setup store.node store.rows dir part name client seq call said ∙ old.setup';
           });
           clients_are = inv.sizes.clients_are;
         }
@@ -226,7 +231,7 @@ module _ (t : Trace) (inv : Inv t) (s : ℕ) (state : ServerState) (is : slice_g
       doubt_follows = each_set s next_state inv.doubt.doubt_follows follows;
     }
 
-    abbrev new_stores : ℕ → StoreV
+    abbrev new_stores : ℕ → NodeAndRows
     new_stores = store_in (slice_set t.world.servers s next_state)
 
     here_now : new_stores s ≡ carried store client seq call dir name

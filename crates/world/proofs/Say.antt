@@ -15,7 +15,7 @@ use Rattle.records.specs.declared.msg.Msg.{Msg}
 use Rattle.records.specs.declared.msg.Msg.TheVariants.{Request, Answer}
 use Rattle.records.specs.declared.record.Record.{Record}
 use Rattle.records.specs.declared.record.Record.TheVariants.{Head, Opened, Begin, Install, End, Served}
-use Rattle.node_core.specs.Nodes.{StoreV, server_for, row_in, session_in}
+use Rattle.node_core.specs.Nodes.{NodeAndRows, server_for, part_for, row_in, session_in}
 use Rattle.node_core.specs.Rules.{ChangeOf, asked_of, found}
 use Rattle.sessions.specs.Kept.{seq_of}
 use Rattle.world.specs.declared.state.ServerState.{ServerState}
@@ -26,15 +26,16 @@ use Rattle.mds_base.proofs.Grow.{get_front, get_last, get_pushed, among_more, am
 use Rattle.world.proofs.Stores.{store_was}
 use Rattle.world.proofs.Tables.{allowed_look, given_look, after_look}
 use Rattle.world.proofs.Legal.{entries_push, given_push, legal_push, map_push}
+use Rattle.world.proofs.Keepers.{keepers, own_holder}
 use Rattle.world.proofs.Invariant.{Inv, BitsTrue, LegalKept, MadeKept, IsSentAs, RequestTrue, AnswerTrue, IsTakenFrom, IsGivenBelow, DoubtKept, Follows, MayCarry, MayFollow, made_by, store_in}
 use Rattle.world.proofs.Steps.{with_msg, look_at, found_at, MayLook, MaySend, IsToldOf}
 use Rattle.world.proofs.Note.{told_issue}
 use Rattle.world.proofs.NoteRest.{answer_more}
 
-may_grow : (count : ℕ) (sent more : List Msg) (s : ℕ) (store : StoreV) (client seq : ℕ) (call : Call) (dir : ℕ) (name : List ℕ) → MayCarry count sent s store client seq call dir name → MayCarry count (sent ++ more) s store client seq call dir name
+may_grow : (count : ℕ) (sent more : List Msg) (s : ℕ) (store : NodeAndRows) (client seq : ℕ) (call : Call) (dir : ℕ) (name : List ℕ) → MayCarry count sent s store client seq call dir name → MayCarry count (sent ++ more) s store client seq call dir name
 may_grow count sent more s store client seq call dir name m = record { asked = m.asked; owner = m.owner; newer = m.newer; numbers = m.numbers; told = among_more more m.told }
 
-follow_grows : (count : ℕ) (sent more : List Msg) (s : ℕ) (store : StoreV) (item : Record) → MayFollow count sent s store item → MayFollow count (sent ++ more) s store item
+follow_grows : (count : ℕ) (sent more : List Msg) (s : ℕ) (store : NodeAndRows) (item : Record) → MayFollow count sent s store item → MayFollow count (sent ++ more) s store item
 follow_grows count sent more s store (Served client seq part call said) m =
     record { dir = m.dir; name = m.name; may = may_grow count sent more s store client seq call m.dir m.name m.may; said' = m.said'; part' = m.part' }
 follow_grows count sent more s store Opened m = absurd m
@@ -44,7 +45,7 @@ follow_grows count sent more s store (End dir part depth) m = absurd m
 follow_grows count sent more s store (Head format servers server threshold) m = absurd m
 
 -- records in doubt may still be made when more was sent
-pub follows_grows : (count : ℕ) (sent more : List Msg) (s : ℕ) (items : List Record) (store : StoreV) → Follows count sent s store items → Follows count (sent ++ more) s store items
+pub follows_grows : (count : ℕ) (sent more : List Msg) (s : ℕ) (items : List Record) (store : NodeAndRows) → Follows count sent s store items → Follows count (sent ++ more) s store items
 follows_grows count sent more s [] store f = tt
 follows_grows count sent more s (item ∷ items) store f = (follow_grows count sent more s store item f.0, follows_grows count sent more s items (made_by store item) f.1)
 
@@ -66,9 +67,9 @@ module _ (t : Trace) (inv : Inv t) (msg : Msg) where
   }
 
   pub taken_said : Each t.past.answered (λ k a. IsTakenFrom sent' a)
-  taken_said = each_map inv.answers.answered_taken (λ k a h. (h.0, get_front t.world.sent (msg ∷ []) a.place _ h.1))
+  taken_said = each_map inv.answers.answered_taken (λ k a h. (h.0, get_front t.world.sent (msg ∷ []) a.message _ h.1))
 
-  pub msg_keeps : RequestTrue t.world.setup.servers t.past.issued msg → AnswerTrue t.past.made (length t.world.sent) msg → BitsTrue msg → Inv (with_msg t msg)
+  pub msg_keeps : RequestTrue keepers t.world.setup.servers t.past.issued msg → AnswerTrue t.past.made (length t.world.sent) msg → BitsTrue keepers msg → Inv (with_msg t msg)
   msg_keeps request answer bits = record {
     sizes = inv.sizes;
     rows = inv.rows;
@@ -94,7 +95,7 @@ module _ (t : Trace) (inv : Inv t) (msg : Msg) where
   }
 
 pub send_keeps : (t : Trace) → Inv t → (to : ℕ) (ask : Ask) (cursor : Option Cursor) → MaySend t to ask → Inv (with_msg t (Request to ask cursor))
-send_keeps t inv to ask cursor may = msg_keeps t inv (Request to ask cursor) (record { issue = may.issue; part = may.part; kept = may.kept; there = may.there }) tt tt
+send_keeps t inv to ask cursor may = msg_keeps t inv (Request to ask cursor) (record { issue = may.issue; part = may.part; kept = may.kept; there = ap Some may.there }) tt tt
 
 pub tell_keeps : (t : Trace) → Inv t → (client seq attempt : ℕ) (said : Final) → Among t.past.made (λ k e. IsToldOf e client seq said) → Inv (with_msg t (Answer client seq attempt (Said said)))
 tell_keeps t inv client seq attempt said told =
@@ -125,7 +126,7 @@ module _ (t : Trace) (inv : Inv t) (s : ℕ) (state : ServerState) (ask : Ask) (
 
   made_look : MadeKept (t.world.sent ++ msg ∷ []) t.past.issued (t.past.made ++ entry ∷ []) t.past.count
   made_look =
-      let i = told_issue servers t.past.issued ask.client ask.seq ask.call may.told.item may.told.good (inv.messages.request_true.at may.told.place may.told.item may.told.is) in
+      let i = told_issue keepers servers t.past.issued ask.client ask.seq ask.call may.told.item may.told.good (inv.messages.request_true.at may.told.place may.told.item may.told.is) in
       let of_issue : Among t.past.issued (λ j x. IsOfIssue entry x) = record {
         place = i.place;
         item = i.item;
@@ -143,8 +144,15 @@ module _ (t : Trace) (inv : Inv t) (s : ℕ) (state : ServerState) (ask : Ask) (
         change_once = once_push entry inv.made.change_once (λ k x at alike. let e = alike.right in cc) (λ k x at alike. let e = alike.left in cc);
       }
 
-  before : map.get t.past.entries (dir, name) ≡ row_in state.rows dir 0 name
-  before = inv.rows.map_rows dir name ∙ ap (λ j. row_in (store_in t.world.servers j).rows dir 0 name) may.owner ∙ ap (λ (v : StoreV). row_in v.rows dir 0 name) (store_was t.world.servers s state may.is)
+  abbrev part : ℕ
+  part = part_for state.node dir name
+
+  before : map.get t.past.entries (dir, name) ≡ row_in state.rows dir part name
+  before =
+      inv.rows.map_rows dir name
+      ∙ ap (λ p. row_in (store_in t.world.servers (server_for servers dir p)).rows dir p name) (own_holder state.node dir name)
+      ∙ ap (λ j. row_in (store_in t.world.servers j).rows dir part name) may.owner
+      ∙ ap (λ (v : NodeAndRows). row_in v.rows dir part name) (store_was t.world.servers s state may.is)
 
   allowed : Allows t.past.entries ask.call reply
   allowed = subst (λ o. Allows t.past.entries ask.call (found o until)) before (allowed_look t.past.entries ask.call until dir name may.asked)
@@ -163,7 +171,7 @@ module _ (t : Trace) (inv : Inv t) (s : ℕ) (state : ServerState) (ask : Ask) (
   }
 
   covers_look : (k : ℕ) (e : MadeV) → slice_get (t.past.made ++ entry ∷ []) k ≡ Some e → e.kind ≡ Change → (d : ℕ) (n : List ℕ) → asked_of e.entry.call ≡ ChangeOf d n
-      → e.entry.seq ≤ seq_of (session_in (store_in t.world.servers (server_for servers d 0)).node d 0 e.entry.client)
+      → e.entry.seq ≤ seq_of (session_in (store_in t.world.servers (server_for servers d (keepers.holder d n))).node d (keepers.holder d n) e.entry.client)
   covers_look k e at kind d n asked = elim (get_pushed t.past.made entry k e at) [
     | inl h ↦ inv.sessions.session_covers k e h kind d n asked
     | inr h ↦ let look : entry.kind ≡ Change = ap (λ (x : MadeV). x.kind) h.1 ∙ kind in cc

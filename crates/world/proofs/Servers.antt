@@ -7,7 +7,7 @@ use Rattle.mds_base.specs.declared.call.Call.{Call}
 use Rattle.mds_base.specs.declared.reply.Final.{Final}
 use Rattle.records.specs.declared.record.Record.{Record}
 use Rattle.records.specs.declared.record.Record.TheVariants.{Served}
-use Rattle.node_core.specs.Nodes.{StoreV}
+use Rattle.node_core.specs.Nodes.{NodeAndRows}
 use Rattle.node_core.specs.Serving.{carried, carried_at}
 use Rattle.world.specs.declared.state.ServerState.{ServerState}
 use Rattle.world.specs.Worlds.{store_of}
@@ -16,6 +16,7 @@ use Rattle.mds_base.proofs.Grow.{each_map, each_set, length_set}
 use Rattle.world.proofs.Choices.{nat_or_apart}
 use Rattle.world.proofs.Stores.{store_was, store_here, store_apart}
 use Rattle.world.proofs.Tables.{one_place}
+use Rattle.world.proofs.Keepers.{keepers}
 use Rattle.world.proofs.Invariant.{Inv, RowsKept, SessionsKept, NumbersKept, Follows, MayCarry, store_in}
 use Rattle.world.proofs.Steps.{with_server, note_at, MayNote, MayRedo, MayDown, does, Tick, Count}
 use Rattle.world.proofs.NoteRest.{note_keeps}
@@ -35,16 +36,16 @@ module _ (t : Trace) (inv : Inv t) (s : ℕ) (state new : ServerState) (is : sli
       some_servers = inv.sizes.some_servers;
       server_count = length_set t.world.servers s new ∙ inv.sizes.server_count;
       servers_are = each_set s new inv.sizes.servers_are (record {
-        server = ap (λ (v : StoreV). v.node.server) same ∙ old.server;
-        setup' = ap (λ (v : StoreV). v.node.setup) same ∙ old.setup';
+        server = ap (λ (v : NodeAndRows). v.node.server) same ∙ old.server;
+        setup' = ap (λ (v : NodeAndRows). v.node.setup) same ∙ old.setup';
       });
       clients_are = inv.sizes.clients_are;
     };
-    rows = subst (λ v. RowsKept t.world.setup.servers v t.past.entries) same_stores inv.rows;
+    rows = subst (λ v. RowsKept keepers t.world.setup.servers v t.past.entries) same_stores inv.rows;
     calls = inv.calls;
     made = inv.made;
     legal = inv.legal;
-    sessions = subst (λ v. SessionsKept t.world.setup.servers v t.past.made) same_stores inv.sessions;
+    sessions = subst (λ v. SessionsKept keepers t.world.setup.servers v t.past.made) same_stores inv.sessions;
     messages = inv.messages;
     answers = inv.answers;
     numbers = subst (λ v. NumbersKept t.world.setup.servers v t.past.made) same_stores inv.numbers;
@@ -101,8 +102,8 @@ tick_keeps t inv by = record {
   bits = inv.bits;
 }
 
-pub count_keeps : (t : Trace) → Inv t → Inv (does t Count)
-count_keeps t inv = record {
+pub count_keeps : (by : ℕ) (t : Trace) → Inv t → Inv (does t (Count by))
+count_keeps by t inv = record {
   sizes = inv.sizes;
   rows = inv.rows;
   calls = record {

@@ -13,20 +13,23 @@ use Rattle.mds_base.specs.RowKeys.{row_key_cmp}
 use Rattle.mds_base.specs.History.{IsLegal}
 use Rattle.bitmap.specs.Bits.{has}
 use Rattle.node_core.specs.Nodes.{new_node, server_for, session_in, row_in, part_cmp, new_part}
+use Rattle.node_core.specs.Terms.{SharesHead, node_on}
 use Rattle.name_hash.specs.RowPlace.{row_key}
 use Rattle.node_core.proofs.Views.{session_cleared}
 use Rattle.client_core.specs.declared.client.Pending.{Pending}
 use Rattle.client_core.specs.Clients.{new_client, zero_bits}
 use Rattle.world.specs.declared.state.ServerState.{ServerState}
 use Rattle.world.specs.declared.state.ClientState.{ClientState}
-use Rattle.mds_base.specs.Lists.{Each, OnceBy}
+use Rattle.mds_base.specs.Lists.{Each}
 use Rattle.world.specs.Worlds.{store_of, new_server, new_seat, fresh_world}
 use Rattle.world.specs.Histories.{Trace}
 use Rattle.world.specs.Law.{row_or, row_at, start_trace, new_servers, opened}
-use Rattle.world.proofs.Happens.{same_key}
+use Rattle.world.proofs.Known.{same_key}
 use Rattle.std.proofs.lemmas.Bool.{or_cases}
+use Rattle.world.proofs.Keepers.{keepers, IsKept, root_kept, zero_holder}
 use Rattle.world.proofs.Invariant.{Inv, IsServer, IsClient, AreKept, IsWithinRange, Follows, store_in, store_or}
 use Rattle.mds_base.proofs.Grow.{within}
+use Rattle.mds_base.proofs.Lists.{get_below, get_mapped, ranged, ranged_length, mapped_length, each_none, once_none}
 use Rattle.world.proofs.Stores.{store_was}
 
 pub record IsStartServer (setup : Setup) (s : ℕ) (state : ServerState) : Type 0 where
@@ -41,37 +44,6 @@ pub record IsStart (setup : Setup) (servers : List ServerState) (entries : Entri
   pub count : length servers ≡ setup.servers
   pub each : Each servers (λ s state. IsStartServer setup s state)
   pub rows : (dir : ℕ) (name : List ℕ) → map.get entries (dir, name) ≡ row_at setup servers dir name
-
--- Lists
-
-pub ranged : {X : Type 0} (f : ℕ → X) (a n k : ℕ) (x : X) → slice_get (list_map f (range_with_len a n)) k ≡ Some x → f (a + k) ≡ x
-ranged f a zero k x e = cc
-ranged f a (suc n) zero x e = let s : f a ≡ x = cc in let z : a + 0 ≡ a = omega arith in ap f z ∙ s
-ranged f a (suc n) (suc k) x e = let z : a + suc k ≡ (a + 1) + k = omega arith in ap f z ∙ ranged f (a + 1) n k x e
-
-ranged_length : {X : Type 0} (f : ℕ → X) (a n : ℕ) → length (list_map f (range_with_len a n)) ≡ n
-ranged_length f a zero = refl
-ranged_length f a (suc n) = ap suc (ranged_length f (a + 1) n)
-
-pub get_below : {X : Type 0} (xs : List X) (k : ℕ) → k < length xs → (x : X) × (slice_get xs k ≡ Some x)
-get_below [] k lt = absurd (omega arith)
-get_below (x ∷ xs) zero lt = (x, refl)
-get_below (x ∷ xs) (suc k) lt = get_below xs k (omega arith)
-
-pub get_mapped : {X Y : Type 0} (f : X → Y) (xs : List X) (k : ℕ) (y : Y) → slice_get (list_map f xs) k ≡ Some y → (x : X) × (slice_get xs k ≡ Some x) × (f x ≡ y)
-get_mapped f [] k y e = cc
-get_mapped f (x ∷ xs) zero y e = let s : f x ≡ y = cc in (x, refl, s)
-get_mapped f (x ∷ xs) (suc k) y e = get_mapped f xs k y e
-
-mapped_length : {X Y : Type 0} (f : X → Y) (xs : List X) → length (list_map f xs) ≡ length xs
-mapped_length f [] = refl
-mapped_length f (x ∷ xs) = ap suc (mapped_length f xs)
-
-none_at : {X : Type 0} {P : ℕ → X → Type 0} → Each [] P
-none_at = record { at = λ k x e. cc }
-
-none_once : {X : Type 0} {Alike : X → X → Type 0} → OnceBy [] Alike
-none_once = record { same = λ i j x y ei ej alike. cc }
 
 -- What an absent server keeps
 
@@ -123,11 +95,11 @@ module _ (setup : Setup) (servers : List ServerState) (entries : Entries) (start
   none_open : (k : ℕ) (seat : ClientState) (pending : Pending) → slice_get (fresh_world setup servers).clients k ≡ Some seat → seat.client.pending ≡ Some pending → ⊥
   none_open k seat pending e busy = let idle : None ≡ seat.client.pending = ap (λ (s : ClientState). s.client.pending) (seats k seat e) in cc
 
-  zero_kept : (number : ℕ) → AreKept (new_client number setup)
+  zero_kept : (number : ℕ) → AreKept keepers (new_client number setup)
   zero_kept number dir part e =
       let at_zero : has zero_bits part ≡ true = sym (ap (λ o. has (unwrap_or o zero_bits) part) (map.get-empty nat_cmp dir)) ∙ e in
       elim (or_cases (eq_by_cmp nat_cmp part 0) (has set.empty part) (sym (set.contains-insert nat_cmp_total set.empty 0 part) ∙ at_zero)) [
-        | inl h ↦ same_key part 0 h
+        | inl h ↦ subst (IsKept keepers dir) (sym (same_key part 0 h)) (root_kept dir)
         | inr h ↦ let n : has (set.empty {R = nat_cmp}) part ≡ false = set.contains-empty nat_cmp part in cc
       ]
 
@@ -139,29 +111,34 @@ module _ (setup : Setup) (servers : List ServerState) (entries : Entries) (start
       servers_are = record { at = λ k state is. (start.each.at k state is).is_server };
       clients_are = record { at = is_client };
     };
-    rows = record { map_rows = λ dir name. start.rows dir name ∙ sym (row_in_store servers (server_for setup.servers dir 0) dir name) };
-    calls = record {
-      issued_below = none_at;
-      issued_once = none_once;
-      open_issued = λ k seat pending at busy. absurd (none_open k seat pending at busy);
-      open_unanswered = λ k seat pending at busy. none_at;
-      answered_below = none_at;
-      answered_once = none_once;
+    rows = record {
+      map_rows = λ dir name.
+          start.rows dir name
+          ∙ sym (row_in_store servers (server_for setup.servers dir 0) dir name)
+          ∙ sym (ap (λ p. row_in (store_in servers (server_for setup.servers dir p)).rows dir p name) (zero_holder dir name));
     };
-    made = record { made_issued = none_at; made_now = none_at; made_kind = none_at; looked_sent = none_at; looked_once = none_once; change_once = none_once };
+    calls = record {
+      issued_below = each_none;
+      issued_once = once_none;
+      open_issued = λ k seat pending at busy. absurd (none_open k seat pending at busy);
+      open_unanswered = λ k seat pending at busy. each_none;
+      answered_below = each_none;
+      answered_once = once_none;
+    };
+    made = record { made_issued = each_none; made_now = each_none; made_kind = each_none; looked_sent = each_none; looked_once = once_none; change_once = once_none };
     legal = record { legal = nothing_legal entries; now = refl };
     sessions = record {
       session_true = λ dir part client kept e. let n = session_at (server_for setup.servers dir part) dir part client in cc;
       session_covers = λ k e at kind dir name asked. cc;
     };
-    messages = record { request_true = none_at; answer_true = none_at };
-    answers = record { answered_taken = none_at; answered_made = none_at };
+    messages = record { request_true = each_none; answer_true = each_none };
+    answers = record { answered_taken = each_none; answered_made = each_none };
     numbers = record { next_within = within_at; given_below = tt };
     doubt = record {
       doubt_down = record { at = λ k state is up. (start.each.at k state is).doubt };
       doubt_follows = record { at = λ k state is. subst (Follows setup.servers [] k (store_of state)) (sym (start.each.at k state is).doubt) tt };
     };
-    bits = record { sent_kept = none_at; bits_kept = record { at = λ k seat at. subst (λ (s : ClientState). AreKept s.client) (seats k seat at) (zero_kept (1 + k)) } };
+    bits = record { sent_kept = each_none; bits_kept = record { at = λ k seat at. subst (λ (s : ClientState). AreKept keepers s.client) (seats k seat at) (zero_kept (1 + k)) } };
   }
 
 -- New servers are a start
@@ -190,34 +167,36 @@ start_new setup some = record {
   rows = λ dir name. map.get-empty place_cmp (dir, name) ∙ sym (row_of_new setup 0 setup.servers (server_for setup.servers dir 0) dir name);
 }
 
--- What an opening makes of servers that are up is a start
+-- What an opening on terms that share the head makes of servers that are up is a start
 
-opened_row : (servers : List ServerState) (k dir : ℕ) (name : List ℕ) → row_or (slice_get (list_map opened servers) k) dir name ≡ row_or (slice_get servers k) dir name
-opened_row [] k dir name = refl
-opened_row (state ∷ servers) zero dir name = refl
-opened_row (state ∷ servers) (suc k) dir name = opened_row servers k dir name
+opened_row : (terms : Setup) (servers : List ServerState) (k dir : ℕ) (name : List ℕ) → row_or (slice_get (list_map (opened terms) servers) k) dir name ≡ row_or (slice_get servers k) dir name
+opened_row terms [] k dir name = refl
+opened_row terms (state ∷ servers) zero dir name = refl
+opened_row terms (state ∷ servers) (suc k) dir name = opened_row terms servers k dir name
 
-pub start_again : (t : Trace) → Inv t → ((k : ℕ) (state : ServerState) → slice_get t.world.servers k ≡ Some state → state.up ≡ true) → IsStart t.world.setup (list_map opened t.world.servers) t.past.entries
-start_again t inv up = record {
-  some_servers = inv.sizes.some_servers;
-  count = mapped_length opened t.world.servers ∙ inv.sizes.server_count;
+pub start_again : (t : Trace) → Inv t → ((k : ℕ) (state : ServerState) → slice_get t.world.servers k ≡ Some state → state.up ≡ true) → (terms : Setup) → SharesHead t.world.setup terms → IsStart terms (list_map (opened terms) t.world.servers) t.past.entries
+start_again t inv up terms share = record {
+  some_servers = subst (λ n. 0 < n) (sym share.servers) inv.sizes.some_servers;
+  count = mapped_length (opened terms) t.world.servers ∙ inv.sizes.server_count ∙ sym share.servers;
   each = record {
     at = λ k state e.
-        let g = get_mapped opened t.world.servers k state e in
+        let g = get_mapped (opened terms) t.world.servers k state e in
         let c = inv.sizes.server_count in
         let w = within t.world.servers k g.0 g.1 in
         let old = inv.sizes.servers_are.at k g.0 g.1 in
         let range : IsWithinRange k (store_of g.0) = subst (IsWithinRange k) (store_was t.world.servers k g.0 g.1) (inv.numbers.next_within k (omega arith)) in
-        subst (IsStartServer t.world.setup k) g.2 (record {
-          is_server = record { server = old.server; setup' = old.setup' };
+        subst (IsStartServer terms k) g.2 (record {
+          is_server = record { server = old.server; setup' = refl };
           up = up k g.0 g.1;
           doubt = inv.doubt.doubt_down.at k g.0 g.1 (up k g.0 g.1);
-          sessions = session_cleared g.0.node;
+          sessions = session_cleared (node_on terms g.0.node);
           next = record { from = range.from; to = range.to };
         });
   };
   rows = λ dir name.
       inv.rows.map_rows dir name
+      ∙ ap (λ p. row_in (store_in t.world.servers (server_for t.world.setup.servers dir p)).rows dir p name) (zero_holder dir name)
       ∙ row_in_store t.world.servers (server_for t.world.setup.servers dir 0) dir name
-      ∙ sym (opened_row t.world.servers (server_for t.world.setup.servers dir 0) dir name);
+      ∙ ap (λ n. row_or (slice_get t.world.servers (server_for n dir 0)) dir name) (sym share.servers)
+      ∙ sym (opened_row terms t.world.servers (server_for terms.servers dir 0) dir name);
 }

@@ -1,15 +1,13 @@
 -- What the code of an event reads and writes is what the event's definition says.
-use Rattle.std.proofs.Common.{◌≡◌, ◌∙◌, sym, ap, subst, refl, ℕ, zero, suc, ◌+◌, ◌-◌, ◌<◌, ◌≤◌, ◌==◌, ◌&&◌, Bool, true, false, List, [], ◌∷◌, ◌++◌, length, get_or, take, Option, Some, None, Result, Ok, Err, arith}
-use Rattle.std.specs.Prelude.{slice_set}
+use Rattle.std.proofs.Common.{◌≡◌, ◌∙◌, sym, ap, subst, refl, ℕ, zero, suc, ◌+◌, ◌-◌, ◌<◌, ◌≤◌, ◌==◌, ◌&&◌, Bool, true, false, List, [], ◌∷◌, ◌++◌, length, get_or, take, Option, Some, None, arith}
+use Rattle.std.specs.Prelude.{slice_set, is_some}
 use Rattle.std.specs.List.{slice_get, list_all}
-use Rattle.std.proofs.lemmas.Option.{slice_get_read}
 use Rattle.std.proofs.lemmas.Bool.{and_parts}
-use Rattle.std.specs.Result.{IfOk, is_err}
 use Rattle.std.proofs.lemmas.List.{append-nil, take_more}
 use Rattle.mds_base.specs.declared.call.Call.{Call}
 use Rattle.records.specs.declared.msg.Msg.{Msg}
 use Rattle.records.specs.declared.record.Record.{Record}
-use Rattle.node_core.specs.Nodes.{StoreV}
+use Rattle.node_core.specs.Nodes.{NodeAndRows}
 use Rattle.node_core.specs.Serving.{serve, serve_all, replayed, replayed_all}
 use Rattle.client_core.specs.declared.client.Pending.{Pending}
 use Rattle.bitmap.specs.Bits.{Bits}
@@ -21,17 +19,9 @@ use Rattle.world.specs.declared.event.ServeEnd.{ServeEnd}
 use Rattle.world.specs.declared.event.ServeEnd.TheVariants as ends
 use Rattle.world.specs.Worlds.{WorldV, store_of, with_store}
 use Rattle.world.specs.Events.{seat_at, index_of, is_for_server, serves_at, can_issue, can_resend, can_take, can_serve, onto_msgs, after_issue, after_hint, after_resend, after_resend_of, after_take, after_take_of, after_serve, after_serve_of}
-use Rattle.world.proofs.Happens.{two_places}
-
--- a test that fails where there is nothing passes at places of the list alone
-pub within_of : {X : Type 0} (f : Option X → Bool) → f None ≡ false → (xs : List X) (k : ℕ) → f (slice_get xs k) ≡ true → k < length xs
-within_of f none [] k can = cc
-within_of f none (x ∷ xs) zero can = omega arith
-within_of f none (x ∷ xs) (suc k) can = omega (arith, within_of f none xs k can)
-
--- and so what is read there is what is looked up
-pub item_is : {X : Type 0} (f : Option X → Bool) → f None ≡ false → (xs : List X) (k : ℕ) → f (slice_get xs k) ≡ true → (x : X) → x ≡ get_or xs k x → slice_get xs k ≡ Some x
-item_is f none xs k can x read = slice_get_read xs (length xs) k x refl (within_of f none xs k can) read
+use Rattle.std.proofs.Math.Bool.{and-true}
+use Rattle.mds_base.proofs.Lists.{item_is}
+use Rattle.world.proofs.Choices.{two_places}
 
 pub index_is : (client : ℕ) → index_of client ≡ client - 1
 index_is zero = refl
@@ -67,10 +57,6 @@ served_at sent server (place ∷ []) can = record {
   is_for = (and_parts (is_for_server server (slice_get sent place)) true (and_parts (length (place ∷ []) == 1) (is_for_server server (slice_get sent place) && true) can).1).0;
 }
 
-and_true : (b : Bool) → (b && true) ≡ b
-and_true true = refl
-and_true false = refl
-
 pub serves_one : (sent : List Msg) (server : ℕ) (places list : List ℕ) → list ≡ places → 1 ≤ length list → length list < 2 → serves_at sent server places ≡ is_for_server server (slice_get sent (get_or list 0 0))
 serves_one sent server places list same from to =
     subst (λ xs. serves_at sent server xs ≡ is_for_server server (slice_get sent (get_or list 0 0))) same (one list from to)
@@ -78,7 +64,7 @@ serves_one sent server places list same from to =
     one : (xs : List ℕ) → 1 ≤ length xs → length xs < 2 → serves_at sent server xs ≡ is_for_server server (slice_get sent (get_or xs 0 0))
     one [] from to = absurd (omega arith)
     one (place ∷ other ∷ places) from to = absurd (omega arith)
-    one (place ∷ []) from to = and_true (is_for_server server (slice_get sent place))
+    one (place ∷ []) from to = and-true (is_for_server server (slice_get sent place))
 
 pub served_first : (sent : List Msg) (server : ℕ) (places list : List ℕ) → list ≡ places → serves_at sent server places ≡ true → is_for_server server (slice_get sent (get_or list 0 0)) ≡ true
 served_first sent server places list same can =
@@ -91,20 +77,16 @@ served_only sent server places list same can =
     s.only ∙ sym (ap (λ xs. get_or xs 0 0 ∷ []) (same ∙ s.only))
 
 -- one record more is replayed
-pub replayed_more : (items : List Record) (store : StoreV) (item : Record) → replayed_all store (items ++ item ∷ []) ≡ replayed (replayed_all store items) item
+pub replayed_more : (items : List Record) (store : NodeAndRows) (item : Record) → replayed_all store (items ++ item ∷ []) ≡ replayed (replayed_all store items) item
 replayed_more [] store item = refl
 replayed_more (first ∷ items) store item = replayed_more items (replayed store first) item
 
-pub replay_step : (items : List Record) (k : ℕ) (start now : StoreV) (item : Record) → k < length items → item ≡ get_or items k item → now.node ≡ (replayed_all start (take k items)).node → now.rows ≡ (replayed_all start (take k items)).rows
+pub replay_step : (items : List Record) (k : ℕ) (start now : NodeAndRows) (item : Record) → k < length items → item ≡ get_or items k item → now.node ≡ (replayed_all start (take k items)).node → now.rows ≡ (replayed_all start (take k items)).rows
     → replayed now item ≡ replayed_all start (take (k + 1) items)
 replay_step items k start now item below is node rows =
     let same : now ≡ replayed_all start (take k items) = λ i. record { node = node i; rows = rows i } in
     let more : take (k + 1) items ≡ take k items ++ item ∷ [] = take_more items k item below ∙ ap (λ x. take k items ++ x ∷ []) (sym is) in
     ap (λ s. replayed s item) same ∙ sym (replayed_more (take k items) start item) ∙ ap (replayed_all start) (sym more)
-
-pub if_ok_from : {T E : Type 0} (r : Result T E) (P : T → Type 0) → is_err r ≡ false → IfOk r P → (x : T) × P x
-if_ok_from (Ok x) P e holds = (x, holds)
-if_ok_from (Err y) P e holds = cc
 
 -- Clients
 
@@ -123,11 +105,11 @@ module _ (i w : WorldV) (same : i ≡ w) (client : ℕ) (seat : ClientState) (re
       let first : with_client_at new sent ≡ after_issue i client call (Some seat) = cc in
       first ∙ ap (λ x. after_issue x client call (Some seat)) same ∙ ap (after_issue w client call) (sym (seat_in (λ o. can_issue o call) refl can))
 
-  pub hint_is : (dir : ℕ) (bits : Bits) → can_take (seat_at w.clients client) ≡ true → (new : ClientV) → new ≡ merged seat.client dir bits → with_client_at new i.sent ≡ after_hint w client dir bits (seat_at w.clients client)
+  pub hint_is : (dir : ℕ) (bits : Bits) → is_some (seat_at w.clients client) ≡ true → (new : ClientV) → new ≡ merged seat.client dir bits → with_client_at new i.sent ≡ after_hint w client dir bits (seat_at w.clients client)
   hint_is dir bits can new new_is =
       let index = index_is client in
       let first : with_client_at new i.sent ≡ after_hint i client dir bits (Some seat) = cc in
-      first ∙ ap (λ x. after_hint x client dir bits (Some seat)) same ∙ ap (after_hint w client dir bits) (sym (seat_in can_take refl can))
+      first ∙ ap (λ x. after_hint x client dir bits (Some seat)) same ∙ ap (after_hint w client dir bits) (sym (seat_in is_some refl can))
 
   resend_of : (p : Option Pending) (new : ClientV) (msg : Msg) (sent : List Msg) → SendsAgain seat.client new msg p → sent ≡ i.sent ++ msg ∷ [] → with_client_at new sent ≡ after_resend_of i client seat p
   resend_of None new msg sent sends sent_is = absurd sends

@@ -26,8 +26,9 @@ use Rattle.world.specs.declared.state.ClientState.{ClientState}
 use Rattle.mds_base.specs.Lists.{Among}
 use Rattle.world.specs.Worlds.{store_of}
 use Rattle.world.specs.Events.{is_call}
-use Rattle.world.specs.Histories.{MadeV, Trace, Change, changed, looked, counted}
-use Rattle.world.proofs.Invariant.{MayCarry, Follows, IsIssueOf, IsKeptPart, AsksFor}
+use Rattle.world.specs.Histories.{MadeV, Trace, Change, changed, looked, weighed}
+use Rattle.world.proofs.Invariant.{MayCarry, Follows, IsIssueOf, AsksFor}
+use Rattle.world.proofs.Keepers.{keepers, IsKept}
 
 pub data Micro : Type 0 where
   -- a server that is up carries a change out
@@ -49,9 +50,9 @@ pub data Micro : Type 0 where
   -- a server goes down with these records in doubt; it comes up, and gives up what is in doubt
   Down : (s : ℕ) (state : ServerState) (doubt : List Record) → Micro
   Up : (s : ℕ) (state : ServerState) → Micro
-  -- the moment rises; one more event
+  -- the moment rises; an event of this weight is over
   Tick : (by : ℕ) → Micro
-  Count : Micro
+  Count : (n : ℕ) → Micro
 
 -- What a micro-step changes
 
@@ -101,7 +102,7 @@ abbrev pub close_at : Trace → ℕ → ClientState → Pending → Reply → �
 close_at t k seat pending reply place =
     record {
       world = record t.world { clients = slice_set t.world.clients k (record { client = closed seat.client; quit = seat.quit }) };
-      past = record t.past { answered = t.past.answered ++ (record { client = suc k; seq = seat.client.seq; call = pending.call; reply = reply; place = place; at = t.past.count }) ∷ [] };
+      past = record t.past { answered = t.past.answered ++ (record { client = suc k; seq = seat.client.seq; call = pending.call; reply = reply; message = place; at = t.past.count }) ∷ [] };
     }
 
 abbrev pub does : Trace → Micro → Trace
@@ -118,7 +119,7 @@ does t (Quit k seat) = with_seat t k (record { client = seat.client; quit = true
 does t (Down s state doubt) = with_server t s (record { node = state.node; rows = state.rows; up = false; doubt = doubt })
 does t (Up s state) = with_server t s (record { node = state.node; rows = state.rows; up = true; doubt = [] })
 does t (Tick by) = record { world = record t.world { now = t.world.now + by }; past = t.past }
-does t Count = record { world = t.world; past = counted t.past }
+does t (Count n) = record { world = t.world; past = weighed n t.past }
 
 -- When it may be made
 
@@ -149,7 +150,7 @@ pub record IsToldOf (e : MadeV) (client seq : ℕ) (said : Final) : Type 0 where
 pub record MaySend (t : Trace) (to : ℕ) (ask : Ask) : Type 0 where
   pub issue : Among t.past.issued (λ j i. IsIssueOf i ask.client ask.seq ask.call)
   pub part : ℕ
-  pub kept : IsKeptPart part
+  pub kept : IsKept keepers (dir_of ask.call) part
   pub there : to ≡ server_for t.world.setup.servers (dir_of ask.call) part
 
 pub record MayOpen (t : Trace) (k : ℕ) (seat : ClientState) (call : Call) : Type 0 where
@@ -161,9 +162,9 @@ pub record MayBump (t : Trace) (k : ℕ) (seat : ClientState) (pending : Pending
   pub is : slice_get t.world.clients k ≡ Some seat
   pub busy : seat.client.pending ≡ Some pending
 
-pub record MayMerge (t : Trace) (k : ℕ) (seat : ClientState) (bits : Bits) : Type 0 where
+pub record MayMerge (t : Trace) (k : ℕ) (seat : ClientState) (dir : ℕ) (bits : Bits) : Type 0 where
   pub is : slice_get t.world.clients k ≡ Some seat
-  pub kept : (part : ℕ) → has bits part ≡ true → IsKeptPart part
+  pub kept : (part : ℕ) → has bits part ≡ true → IsKept keepers dir part
 
 pub record MayClose (t : Trace) (k : ℕ) (seat : ClientState) (pending : Pending) (attempt : ℕ) (reply : Reply) (place : ℕ) : Type 0 where
   pub is : slice_get t.world.clients k ≡ Some seat
@@ -182,10 +183,10 @@ may t (Tell client seq attempt said) = Among t.past.made (λ k e. IsToldOf e cli
 may t (Send to ask cursor) = MaySend t to ask
 may t (Open k seat call) = MayOpen t k seat call
 may t (Bump k seat pending) = MayBump t k seat pending
-may t (Merge k seat dir bits) = MayMerge t k seat bits
+may t (Merge k seat dir bits) = MayMerge t k seat dir bits
 may t (Close k seat pending attempt reply place) = MayClose t k seat pending attempt reply place
 may t (Quit k seat) = slice_get t.world.clients k ≡ Some seat
 may t (Down s state doubt) = MayDown t s state doubt
 may t (Up s state) = slice_get t.world.servers s ≡ Some state
 may t (Tick by) = Unit {0}
-may t Count = Unit {0}
+may t (Count n) = Unit {0}

@@ -1,6 +1,6 @@
 -- Events keep the ranges of a world's numbers.
 use Rattle.std.proofs.Common.{◌≡◌, ◌∙◌, sym, ap, subst, refl, ℕ, ◌+◌, ◌-◌, ◌<◌, ◌&&◌, not, Bool, true, false, List, [], ◌∷◌, ◌++◌, get_or, Option, Some, None, Result, Ok, Err, OnOk, OnErr, arith}
-use Rattle.std.specs.Prelude.{slice_set, nat_lt}
+use Rattle.std.specs.Prelude.{slice_set, nat_lt, is_some}
 use Rattle.std.specs.Prelude.{map as list_map}
 use Rattle.std.specs.List.{slice_get, range_with_len}
 use Rattle.std.proofs.lemmas.Bool.{and_parts, ltb-true}
@@ -11,7 +11,7 @@ use Rattle.mds_base.specs.declared.ask.Ask.{Ask}
 use Rattle.mds_base.specs.declared.call.Call.{Call}
 use Rattle.records.specs.declared.msg.Msg.{Msg}
 use Rattle.records.specs.declared.msg.Msg.TheVariants.{Request, Redirect, Answer, Busy, Held, Page, Closed, Transfer, Installed}
-use Rattle.node_core.specs.Nodes.{StoreV}
+use Rattle.node_core.specs.Nodes.{NodeAndRows}
 use Rattle.node_core.specs.Rules.{Outcome, Silent, Looks, Repeats, Carries, outcome, is_served, request_in}
 use Rattle.node_core.specs.Serving.{serve, serve_request, served_as}
 use Rattle.node_core.specs.Ranges.{RequestFits, DirFits, RecordFits}
@@ -31,45 +31,40 @@ use Rattle.world.specs.Events.{is_call, is_open, seat_at, can_issue, can_resend,
 use Rattle.mds_base.proofs.Grow.{each_push, each_set}
 use Rattle.node_core.proofs.Calls.{well_made_fits}
 use Rattle.world.proofs.Ranges.{seat_set, msg_sent, msgs_sent}
-use Rattle.world.proofs.Starts.{ranged}
-use Rattle.world.proofs.Stepped.{item_is, seat_is, seat_place}
+use Rattle.mds_base.proofs.Lists.{each_none, item_is, ranged}
+use Rattle.world.proofs.Stepped.{seat_is, seat_place}
 
 -- Directories
 
 pub call_fits : (call : Call) → is_call call ≡ true → dir_of call < DIRECTORIES
 call_fits call e = well_made_fits call (and_parts (is_served call) (is_well_made call) e).1
 
--- Lists
-
-pub each_none : {X : Type 0} {P : ℕ → X → Type 0} → Each [] P
-each_none = record { at = λ k x e. cc }
-
 -- What serving gives
 
-served_outputs : (store : StoreV) (ask : Ask) (o : Outcome) → Each (served_as store ask o).outputs (λ k m. DirFits m)
+served_outputs : (store : NodeAndRows) (ask : Ask) (o : Outcome) → Each (served_as store ask o).outputs (λ k m. DirFits m)
 served_outputs store ask Silent = each_none
 served_outputs store ask (Looks reply) = each_push _ each_none tt
 served_outputs store ask (Repeats said) = each_push _ each_none tt
 served_outputs store ask (Carries said) = each_push _ each_none tt
 
-request_outputs : (store : StoreV) (request : Option Ask) (now : ℕ) → Each (serve_request store request now).outputs (λ k m. DirFits m)
+request_outputs : (store : NodeAndRows) (request : Option Ask) (now : ℕ) → Each (serve_request store request now).outputs (λ k m. DirFits m)
 request_outputs store None now = each_none
 request_outputs store (Some ask) now = served_outputs store ask (outcome store ask now)
 
-pub outputs_fit : (store : StoreV) (msg : Msg) (now : ℕ) → Each (serve store msg now).outputs (λ k m. DirFits m)
+pub outputs_fit : (store : NodeAndRows) (msg : Msg) (now : ℕ) → Each (serve store msg now).outputs (λ k m. DirFits m)
 outputs_fit store msg now = request_outputs store (request_in msg) now
 
-served_records : (store : StoreV) (ask : Ask) (o : Outcome) → dir_of ask.call < DIRECTORIES → Each (served_as store ask o).records (λ k item. RecordFits item)
+served_records : (store : NodeAndRows) (ask : Ask) (o : Outcome) → dir_of ask.call < DIRECTORIES → Each (served_as store ask o).records (λ k item. RecordFits item)
 served_records store ask Silent fits = each_none
 served_records store ask (Looks reply) fits = each_none
 served_records store ask (Repeats said) fits = each_none
 served_records store ask (Carries said) fits = each_push _ each_none fits
 
-request_records : (store : StoreV) (request : Option Ask) (now : ℕ) → RequestFits request → Each (serve_request store request now).records (λ k item. RecordFits item)
+request_records : (store : NodeAndRows) (request : Option Ask) (now : ℕ) → RequestFits request → Each (serve_request store request now).records (λ k item. RecordFits item)
 request_records store None now fits = each_none
 request_records store (Some ask) now fits = served_records store ask (outcome store ask now) fits
 
-pub records_fit : (store : StoreV) (msg : Msg) (now : ℕ) → DirFits msg → Each (serve store msg now).records (λ k item. RecordFits item)
+pub records_fit : (store : NodeAndRows) (msg : Msg) (now : ℕ) → DirFits msg → Each (serve store msg now).records (λ k item. RecordFits item)
 records_fit store msg now fits = request_records store (request_in msg) now fits
 
 -- What taking leaves
@@ -194,9 +189,9 @@ module _ (i w : WorldV) (same : i ≡ w) (r : IsRanged i.setup i.now i.servers i
         subst (λ xs. IsRanged i.setup i.now i.servers (slice_set i.clients (client - 1) (record { client = new; quit = seat.quit })) xs) (sym sent_is)
         (with_msg (with_seat r (client - 1) (record { client = new; quit = seat.quit }) fits.0) msg fits.1)
 
-    pub hinted_fits : {T E : Type 0} → can_take (seat_at w.clients client) ≡ true → (dir : ℕ) (bits : Bits) (result : Result T E) (new : ClientV) → OnOk result (new ≡ merged seat.client dir bits) → OnErr result (new ≡ seat.client) → PendingFits new.pending
-    hinted_fits can dir bits (Ok x) new ok err = subst (λ (x : ClientV). PendingFits x.pending) (sym ok) (seat_fits can_take refl can)
-    hinted_fits can dir bits (Err e) new ok err = subst (λ (x : ClientV). PendingFits x.pending) (sym err) (seat_fits can_take refl can)
+    pub hinted_fits : {T E : Type 0} → is_some (seat_at w.clients client) ≡ true → (dir : ℕ) (bits : Bits) (result : Result T E) (new : ClientV) → OnOk result (new ≡ merged seat.client dir bits) → OnErr result (new ≡ seat.client) → PendingFits new.pending
+    hinted_fits can dir bits (Ok x) new ok err = subst (λ (x : ClientV). PendingFits x.pending) (sym ok) (seat_fits is_some refl can)
+    hinted_fits can dir bits (Err e) new ok err = subst (λ (x : ClientV). PendingFits x.pending) (sym err) (seat_fits is_some refl can)
 
     pub taken_fits : can_take (seat_at w.clients client) ≡ true → (msg : Msg) (new : ClientV) → new ≡ (take seat.client msg).client → PendingFits new.pending
     taken_fits can msg new new_is = subst (λ (x : ClientV). PendingFits x.pending) (sym new_is) (take_fits seat.client msg (seat_fits can_take refl can))

@@ -1,6 +1,7 @@
 -- What a run has done so far, beside its world: the map, what was carried out and looked up, what was issued, and
 -- what was answered. No code keeps it.
-use Rattle.std.specs.Prelude.{◌≡◌, ℕ, ◌+◌, ◌≤◌, ◌==◌, Bool, true, List, [], ◌∷◌, ◌++◌, map, filter, length, take, Option, Some, None}
+use Rattle.std.specs.Prelude.{◌≡◌, ℕ, ◌+◌, ◌≤◌, ◌==◌, Bool, true, List, [], ◌∷◌, ◌++◌, map, filter, length, take}
+use Rattle.std.specs.Prelude.{Option, Some, None}
 use Rattle.std.specs.List.{slice_get, list_any}
 use Rattle.mds_base.specs.declared.ask.Ask.{Ask}
 use Rattle.mds_base.specs.declared.call.Call.{Call}
@@ -14,7 +15,7 @@ use Rattle.mds_base.specs.History.{IsLegal}
 use Rattle.records.specs.declared.msg.Msg.{Msg}
 use Rattle.records.specs.declared.record.Record.{Record}
 use Rattle.records.specs.declared.record.Record.TheVariants.{Served}
-use Rattle.node_core.specs.Nodes.{StoreV}
+use Rattle.node_core.specs.Nodes.{NodeAndRows}
 use Rattle.node_core.specs.Rules.{Outcome, Looks, Carries, outcome, request_in}
 use Rattle.node_core.specs.Serving.{serve, may_follow, replayed}
 use Rattle.client_core.specs.declared.client.Pending.{Pending}
@@ -36,20 +37,20 @@ use Rattle.world.specs.Events.{step, seat_at, msgs_at}
 -- among the sent messages
 pub data Kind : Type 0 where
   Change : Kind
-  Looked : (place : ℕ) → Kind
+  Looked : (message : ℕ) → Kind
 
 -- an entry of the history to come: every change is one, and a lookup where its answer is taken
 pub record MadeV : Type 0 where
   pub entry : Entry
   pub kind : Kind
-  -- the number of its event
+  -- what the events before its event weigh
   pub at : ℕ
 
 pub record IssuedV : Type 0 where
   pub client : ℕ
   pub seq : ℕ
   pub call : Call
-  -- the number of its Issue
+  -- what the events before its Issue weigh
   pub at : ℕ
 
 pub record AnsweredV : Type 0 where
@@ -57,9 +58,9 @@ pub record AnsweredV : Type 0 where
   pub seq : ℕ
   pub call : Call
   pub reply : Reply
-  -- the place of the message that answered it
-  pub place : ℕ
-  -- the number of its Take
+  -- the number of the message that answered it
+  pub message : ℕ
+  -- what the events before its Take weigh
   pub at : ℕ
 
 pub record History : Type 0 where
@@ -69,7 +70,7 @@ pub record History : Type 0 where
   pub made : List MadeV
   pub issued : List IssuedV
   pub answered : List AnsweredV
-  -- the events so far
+  -- what the events so far weigh
   pub count : ℕ
 
 -- a run so far
@@ -80,60 +81,58 @@ pub record Trace : Type 0 where
 abbrev pub start_history : Entries → History
 start_history start = record { start = start; entries = start; made = []; issued = []; answered = []; count = 0 }
 
+-- an entry more was made
+abbrev pub made_more : History → Entry → Kind → History
+made_more h entry kind = record h { made = h.made ++ (record { entry = entry; kind = kind; at = h.count }) ∷ [] }
+
 -- a change was carried out
 abbrev pub changed : History → ℕ → ℕ → Call → Final → History
 changed h client seq call said =
-    record {
-      start = h.start;
-      entries = after h.entries call (Said said);
-      made = h.made ++ (record { entry = record { client = client; seq = seq; call = call; reply = Said said }; kind = Change; at = h.count }) ∷ [];
-      issued = h.issued;
-      answered = h.answered;
-      count = h.count;
+    record (made_more h (record { client = client; seq = seq; call = call; reply = Said said }) Change) {
+      entries =
+          after h.entries call (Said said);
     }
 
 -- a lookup's answer was made, which is sent to stand at this place
 abbrev pub looked : History → Ask → Reply → ℕ → History
-looked h ask reply place =
-    record {
-      start = h.start;
-      entries = h.entries;
-      made = h.made ++ (record { entry = record { client = ask.client; seq = ask.seq; call = ask.call; reply = reply }; kind = Looked place; at = h.count }) ∷ [];
-      issued = h.issued;
-      answered = h.answered;
-      count = h.count;
-    }
+looked h ask reply message =
+    made_more h (record { client = ask.client; seq = ask.seq; call = ask.call; reply = reply }) (Looked message)
 
 abbrev pub served_as : History → Ask → ℕ → Outcome → History
-served_as h ask place (Carries said) = changed h ask.client ask.seq ask.call said
-served_as h ask place (Looks reply) = looked h ask reply place
-served_as h ask place outcome = h
+served_as h ask message (Carries said) = changed h ask.client ask.seq ask.call said
+served_as h ask message (Looks reply) = looked h ask reply message
+served_as h ask message outcome = h
 
-abbrev pub served_request : History → StoreV → Option Ask → ℕ → ℕ → History
-served_request h store None now place = h
-served_request h store (Some ask) now place = served_as h ask place (outcome store ask now)
+abbrev pub served_request : History → NodeAndRows → Option Ask → ℕ → ℕ → History
+served_request h store None now message = h
+served_request h store (Some ask) now message = served_as h ask message (outcome store ask now)
 
-abbrev pub served_one : History → StoreV → Msg → ℕ → ℕ → History
-served_one h store msg now place = served_request h store (request_in msg) now place
+abbrev pub served_one : History → NodeAndRows → Msg → ℕ → ℕ → History
+served_one h store msg now message = served_request h store (request_in msg) now message
 
 -- messages were served one after another, what they send beginning at this place
-abbrev pub served_all : History → StoreV → List Msg → ℕ → ℕ → History
-served_all h store [] now place = h
-served_all h store (msg ∷ msgs) now place =
-    served_all (served_one h store msg now place) (serve store msg now).store msgs now (place + length (serve store msg now).outputs)
+abbrev pub served_all : History → NodeAndRows → List Msg → ℕ → ℕ → History
+served_all h store [] now message = h
+served_all h store (msg ∷ msgs) now message =
+    served_all (served_one h store msg now message) (serve store msg now).store msgs now
+    (message + length (serve store msg now).outputs)
 
 abbrev pub replayed_one : History → Record → Bool → History
 replayed_one h (Served client seq part call said) true = changed h client seq call said
 replayed_one h item follows = h
 
 -- records in doubt were kept, one after another
-abbrev pub replayed_all : History → StoreV → List Record → History
+abbrev pub replayed_all : History → NodeAndRows → List Record → History
 replayed_all h store [] = h
-replayed_all h store (item ∷ items) = replayed_all (replayed_one h item (may_follow store item)) (replayed store item) items
+replayed_all h store (item ∷ items) =
+    replayed_all (replayed_one h item (may_follow store item)) (replayed store item) items
 
 abbrev pub after_issue : History → ℕ → Call → Option ClientState → History
 after_issue h client call None = h
-after_issue h client call (Some seat) = record h { issued = h.issued ++ (record { client = client; seq = seat.client.seq + 1; call = call; at = h.count }) ∷ [] }
+after_issue h client call (Some seat) = record h {
+  issued =
+      h.issued ++ (record { client = client; seq = seat.client.seq + 1; call = call; at = h.count }) ∷ [];
+}
 
 -- a Serve that stops has no effect yet
 abbrev pub served_if : History → WorldV → ServerState → List Msg → ServeEnd → History
@@ -145,17 +144,29 @@ after_serve h w places how None = h
 after_serve h w places how (Some state) = served_if h w state (msgs_at w.sent places) how
 
 abbrev pub after_answer : History → ℕ → ClientV → Pending → ℕ → Taken → History
-after_answer h client state pending place (variants.Answer reply) =
-    record h { answered = h.answered ++ (record { client = client; seq = state.seq; call = pending.call; reply = reply; place = place; at = h.count }) ∷ [] }
-after_answer h client state pending place taken = h
+after_answer h client state pending message (variants.Answer reply) =
+    record h {
+      answered = h.answered
+          ++ (record {
+            client = client;
+            seq = state.seq;
+            call = pending.call;
+            reply = reply;
+            message = message;
+            at =
+                h.count;
+          }) ∷ [];
+    }
+after_answer h client state pending message taken = h
 
 abbrev pub after_take_of : History → ℕ → ClientV → ℕ → Msg → Option Pending → History
-after_take_of h client state place msg None = h
-after_take_of h client state place msg (Some pending) = after_answer h client state pending place (taking.take_pending state pending msg).taken
+after_take_of h client state message msg None = h
+after_take_of h client state message msg (Some pending) =
+    after_answer h client state pending message (taking.take_pending state pending msg).taken
 
 abbrev pub after_take : History → ℕ → ℕ → Option Msg → Option ClientState → History
-after_take h client place (Some msg) (Some seat) = after_take_of h client seat.client place msg seat.client.pending
-after_take h client place msg seat = h
+after_take h client message (Some msg) (Some seat) = after_take_of h client seat.client message msg seat.client.pending
+after_take h client message msg seat = h
 
 abbrev pub after_restart : History → ℕ → Option ServerState → History
 after_restart h kept None = h
@@ -165,16 +176,22 @@ after_restart h kept (Some state) = replayed_all h (store_of state) (take kept s
 abbrev pub note : WorldV → History → Event → History
 note w h (Issue client call) = after_issue h client call (seat_at w.clients client)
 note w h (Serve server places how) = after_serve h w places how (slice_get w.servers server)
-note w h (Take client place) = after_take h client place (slice_get w.sent place) (seat_at w.clients client)
+note w h (Take client message) = after_take h client message (slice_get w.sent message) (seat_at w.clients client)
 note w h (Restart server kept) = after_restart h kept (slice_get w.servers server)
 note w h event = h
 
--- one more event
-abbrev pub counted : History → History
-counted h = record h { count = h.count + 1 }
+-- what an event weighs: a Serve as much as the messages that it names, so that each of them can have a number of its
+-- own, and any other event one
+abbrev pub weight : Event → ℕ
+weight (Serve server places how) = length places
+weight event = 1
+
+-- an event of this weight is over
+abbrev pub weighed : ℕ → History → History
+weighed n h = record h { count = h.count + n }
 
 abbrev pub happens : Trace → Event → Trace
-happens t event = record { world = step t.world event; past = counted (note t.world t.past event) }
+happens t event = record { world = step t.world event; past = weighed (weight event) (note t.world t.past event) }
 
 abbrev pub run : Trace → List Event → Trace
 run t [] = t
@@ -182,14 +199,14 @@ run t (event ∷ events) = run (happens t event) events
 
 -- The effects, and what explains a run
 
--- whether some answered call took the message at this place
+-- whether some answered call took the message of this number
 abbrev pub is_taken : List AnsweredV → ℕ → Bool
-is_taken answered place = list_any (λ a. a.place == place) answered
+is_taken answered message = list_any (λ a. a.message == message) answered
 
 -- a change stands, and a lookup where its answer was taken
 abbrev pub stands_as : List AnsweredV → Kind → Bool
 stands_as answered Change = true
-stands_as answered (Looked place) = is_taken answered place
+stands_as answered (Looked message) = is_taken answered message
 
 abbrev pub stands : List AnsweredV → MadeV → Bool
 stands answered made = stands_as answered made.kind

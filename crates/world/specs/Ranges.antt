@@ -18,7 +18,8 @@ PendingFits (Some pending) = dir_of pending.call < DIRECTORIES
 
 -- the ranges of the numbers of clients and messages: of the setup and the moment, and what is asked of each seat and of
 -- each message
-pub record AreRanges {Seat : Type 0} (setup : Setup) (now : ℕ) (IsSeat : ℕ → Seat → Type 0) (seats : List Seat) (IsSent : Msg → Type 0) (sent : List Msg) : Type 0 where
+pub record AreRanges {Seat : Type 0} (setup : Setup) (now : ℕ) (IsSeat : ℕ → Seat → Type 0) (seats : List Seat)
+    (IsSent : Msg → Type 0) (sent : List Msg) : Type 0 where
   pub setup' : IsSetup setup
   pub moment : now < MOMENTS
   pub seats' : Each seats IsSeat
@@ -31,6 +32,7 @@ abbrev pub DoubtFits : ℕ → ServerState → Type 0
 DoubtFits s state = Each state.doubt (λ k item. RecordFits item)
 
 -- in a world each directory that a call, a message or a record in doubt names has a number within its range
-pub record IsRanged (setup : Setup) (now : ℕ) (servers : List ServerState) (clients : List ClientState) (sent : List Msg) : Type 0 where
+pub record IsRanged (setup : Setup) (now : ℕ) (servers : List ServerState) (clients : List ClientState)
+    (sent : List Msg) : Type 0 where
   pub ranges : AreRanges setup now SeatFits clients DirFits sent
   pub doubts : Each servers DoubtFits

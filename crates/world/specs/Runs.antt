@@ -23,7 +23,8 @@ pub record ComesTo (t : Trace) (w : WorldV) : Type 0 where
 abbrev pub LeadsOn : WorldV → Event → WorldV → Type 0
 LeadsOn before event next =
     (past : List PastRun) (servers : List ServerState) (entries : Entries) → IsReached before.setup past servers entries
-    → (events : List Event) → all_enabled (fresh_world before.setup servers) events ≡ true → steps (fresh_world before.setup servers) events ≡ before
+    → (events : List Event) → all_enabled (fresh_world before.setup servers) events ≡ true
+    → steps (fresh_world before.setup servers) events ≡ before
     → ComesTo (run (start_trace before.setup servers entries) (events ++ event ∷ [])) next
 
 -- a run of new servers, over the empty map

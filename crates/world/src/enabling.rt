@@ -1,7 +1,9 @@
 ghost use Rattle.std.specs.Prelude.{◌≡◌, ◌&&◌, not};
 ghost use Rattle.std.specs.Option.{option_copied};
 ghost use Rattle.std.specs.List.{slice_get};
-ghost use Rattle.world.specs.Events.{is_call, is_one, is_for_server, is_for_client, can_issue, can_resend, can_take, can_give_up, can_serve, is_up, is_there, is_down_at, misses, can_restart, can_stop, is_known, seat_at, serves_at, are_known};
+ghost use Rattle.world.specs.Events.{is_call, is_one, is_for_server, is_for_client, can_issue, can_resend, can_take};
+ghost use Rattle.world.specs.Events.{can_give_up, can_serve, is_up, is_there, is_down_at, misses, can_restart};
+ghost use Rattle.world.specs.Events.{can_stop, is_known, seat_at, serves_at, are_known, can_hint};
 
 use crate::event::StopCause;
 use crate::state::{ClientState, ServerState};
@@ -21,11 +23,11 @@ pub fn seat_at(clients: &[ClientState], client: u32) -> Option<&ClientState>
     clients.get(client as usize - 1)
 }
 
-/// The message at a place.
-pub fn msg_at(sent: &MsgList, place: u64) -> Option<&Msg>
-    ensures { option_copied result ≡ slice_get sent.now place }
+/// The message.
+pub fn msg_at(sent: &MsgList, message: u64) -> Option<&Msg>
+    ensures { option_copied result ≡ slice_get sent.now message }
 {
-    sent.get(place as usize)
+    sent.get(message as usize)
 }
 
 /// Whether a client may number a call and send it.
@@ -124,7 +126,7 @@ pub fn serves_at(sent: &MsgList, server: u32, places: &PlaceList) -> bool
     ensures { result ≡ serves_at sent.now server places.now }
 {
     match places.places() {
-        [place] => is_for_server(server, msg_at(sent, *place)),
+        [message] => is_for_server(server, msg_at(sent, *message)),
         _ => false,
     }
 }
@@ -185,8 +187,16 @@ fn is_down(state: Option<&ServerState>) -> bool
     }
 }
 
-/// Whether clients know each partition of a bitmap of a directory.
-pub fn are_known(clients: &[ClientState], dir: u64, bitmap: &Bitmap) -> bool
+/// Whether a client may merge a bitmap of a directory. That it is well formed is left to its type.
+pub fn can_hint(clients: &[ClientState], client: u32, dir: u64, bitmap: &Bitmap) -> bool
+    ensures { result ≡ can_hint clients.now client dir bitmap.now }
+{
+    // A bitmap is well formed, as `has` says.
+    let _well_formed = bitmap.has(0);
+    seat_at(clients, client).is_some() && are_known(clients, dir, bitmap)
+}
+
+fn are_known(clients: &[ClientState], dir: u64, bitmap: &Bitmap) -> bool
     ensures { result ≡ are_known clients.now dir bitmap.now }
 {
     // A bitmap has no partition from 2 ^ RADIX on, as `has` says.

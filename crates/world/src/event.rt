@@ -19,7 +19,7 @@ pub enum StopCause {
     Device,
 }
 
-/// What happens in a world, one row of the table of events each (`docs/DEFINITIONS.md`, "Events").
+/// What happens in a world, one row of the table of events each (`crates/world/README.md`, "Events").
 #[derive(Debug, Drop)]
 pub enum Event {
     /// The client's next call is sent for the first time.
@@ -39,12 +39,12 @@ pub enum Event {
     },
     /// The message meets a server that is down.
     Miss {
-        place: u64,
+        message: u64,
     },
     /// The client takes the message, or ignores it.
     Take {
         client: u32,
-        place: u64,
+        message: u64,
     },
     /// The client's next call is answered by its cache.
     Cached {

@@ -17,7 +17,7 @@ pub enum Ran {
 }
 
 /// Lets events happen, one after another, in a world of new servers and new clients, until one is not enabled. Where
-/// each is, the law of runs holds of the run (`docs/PROMISES.md`, "Every run is explained").
+/// each is, the law of runs holds of the run (`crates/world/README.md`, "Every run is explained").
 pub fn run(alloc: Global, setup: Setup, events: &[Event]) -> Result<Ran, AllocError>
     requires { IsSetup setup }
     ensures ran { IfOk result (RunsAs setup events.now) }

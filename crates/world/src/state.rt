@@ -73,7 +73,14 @@ impl ServerState {
     ) -> Result<(), AllocError>
         requires fits { DirFits msg.now }
         requires moment { now < MOMENTS }
-        ensures ok { OnOk result (self.new ≡ record { node = self.old.node; rows = self.old.rows; up = false; doubt = (serve (store_of self.old) msg.now now).records }) }
+        ensures ok { OnOk result
+            (self.new ≡ record {
+              node = self.old.node;
+              rows = self.old.rows;
+              up = false;
+              doubt =
+                  (serve (store_of self.old) msg.now now).records;
+            }) }
         ensures err { OnErr result (self.new ≡ self.old) }
     {
         match self.node.plan(alloc, &mut self.rows, msg, now) {
@@ -90,7 +97,9 @@ impl ServerState {
     pub(crate) fn restart(&mut self, alloc: Global, kept: u32, now: u64) -> Result<(), AllocError>
         requires kept { kept ≤ length self.old.doubt }
         requires fits { Each self.old.doubt (λ k item. RecordFits item) }
-        ensures ok { OnOk result (self.new ≡ up_with self.old (restarted (replayed_all (store_of self.old) (take kept self.old.doubt)) now)) }
+        ensures ok { OnOk result
+            (self.new ≡ up_with self.old
+            (restarted (replayed_all (store_of self.old) (take kept self.old.doubt)) now)) }
         ensures err { OnErr result (self.new.doubt ≡ self.old.doubt) }
     {
         let items = &self.doubt.records()[..kept as usize];
@@ -110,8 +119,10 @@ fn replay_all(
     items: &[Record],
 ) -> Result<(), AllocError>
     requires { Each items.now (λ k item. RecordFits item) }
-    ensures node { OnOk result (node.new ≡ (replayed_all (record { node = node.old; rows = rows.old }) items.now).node) }
-    ensures rows { OnOk result (rows.new ≡ (replayed_all (record { node = node.old; rows = rows.old }) items.now).rows) }
+    ensures node { OnOk result
+        (node.new ≡ (replayed_all (record { node = node.old; rows = rows.old }) items.now).node) }
+    ensures rows { OnOk result
+        (rows.new ≡ (replayed_all (record { node = node.old; rows = rows.old }) items.now).rows) }
 {
     for item in items {
         if node.replay(alloc, rows, item).is_err() {

@@ -1,13 +1,16 @@
-ghost use Rattle.std.specs.Prelude.{◌≡◌, ◌+◌, ◌<◌, ◌∷◌, [], true, IfOk, OnOk, map};
+ghost use Rattle.std.specs.Prelude.{◌≡◌, ◌+◌, ◌<◌, ◌∷◌, [], true, IfOk, OnOk, map, is_some};
 ghost use Rattle.std.specs.List.{range_with_len, slice_get};
 ghost use Rattle.mds_base.specs.declared.limits.TheConstants.{MOMENTS};
 ghost use Rattle.world.specs.Worlds.{new_world, new_server, new_seat};
 ghost use Rattle.mds_base.specs.Setups.{IsSetup};
 ghost use Rattle.world.specs.Runs.{LeadsOn};
-ghost use Rattle.world.specs.Events.{enabled, step, seat_at, can_issue, can_resend, can_take, can_give_up, can_serve, can_restart, is_there, is_for_client, is_for_server, serves_at, after_issue, after_resend, after_take, after_hint, after_give_up, after_serve, after_stop, after_restart};
+ghost use Rattle.world.specs.Events.{enabled, step, seat_at, can_issue, can_resend, can_take, can_give_up, can_serve};
+ghost use Rattle.world.specs.Events.{can_restart, is_there, is_for_client, is_for_server, serves_at, after_issue};
+ghost use Rattle.world.specs.Events.{after_resend, after_take, after_hint, after_give_up, after_serve, after_stop};
+ghost use Rattle.world.specs.Events.{after_restart};
 
 use crate::enabling::{
-    are_known, can_give_up, can_issue, can_resend, can_restart, can_serve, can_stop, can_take,
+    can_give_up, can_hint, can_issue, can_resend, can_restart, can_serve, can_stop, can_take,
     is_for_client, is_up, misses, msg_at, seat_at, serves_at,
 };
 use crate::event::{Event, ServeEnd};
@@ -19,7 +22,7 @@ use records::MsgList;
 use std::alloc::{AllocError, Global};
 use std::marker::Model;
 
-/// Servers, clients, and the list of all messages that were ever sent (`docs/DEFINITIONS.md`, "World").
+/// Servers, clients, and the list of all messages that were ever sent (`crates/world/README.md`, "World").
 #[derive(Debug, Drop)]
 pub struct World {
     setup: Setup,
@@ -40,7 +43,14 @@ impl Model for World {
 
     ghost coded = { Prim.hlevel (codes, map.code, set.code) };
 
-    ghost view = { λ a. record { setup = a.setup; now = a.moment; servers = a.servers.items; clients = a.clients.items; sent = a.sent } };
+    ghost view = { λ a.
+        record {
+          setup = a.setup;
+          now = a.moment;
+          servers = a.servers.items;
+          clients = a.clients.items;
+          sent = a.sent;
+        } };
 
     ghost invariant = { λ a. IsRanged a.setup a.moment a.servers.items a.clients.items a.sent };
 }
@@ -96,8 +106,8 @@ impl World {
         &self.sent
     }
 
-    /// Whether an event may happen now (`docs/DEFINITIONS.md`, "Events"), in time by what the event names; a Hint looks
-    /// at each partition at each client.
+    /// Whether an event may happen now (`crates/world/README.md`, "Events"), in time by what the event names; a Hint
+    /// looks at each partition at each client.
     pub fn enabled(&self, event: &Event) -> bool
         ensures { result ≡ enabled self.now event.now }
     {
@@ -112,19 +122,17 @@ impl World {
                 can_serve(self.servers.get(*server as usize))
                     && serves_at(&self.sent, *server, places)
             }
-            Event::Miss { place } => { misses(&self.servers, msg_at(&self.sent, *place)) }
-            Event::Take { client, place } => {
+            Event::Miss { message } => { misses(&self.servers, msg_at(&self.sent, *message)) }
+            Event::Take { client, message } => {
                 can_take(seat_at(&self.clients, *client))
-                    && is_for_client(*client, msg_at(&self.sent, *place))
+                    && is_for_client(*client, msg_at(&self.sent, *message))
             }
             Event::Cached { .. } => false,
             Event::Hint {
                 client,
                 dir,
                 bitmap,
-            } => {
-                can_take(seat_at(&self.clients, *client)) && are_known(&self.clients, *dir, bitmap)
-            }
+            } => can_hint(&self.clients, *client, *dir, bitmap),
             Event::Remind { server } => is_up(self.servers.get(*server as usize)),
             Event::Stop { server, cause } => can_stop(self.servers.get(*server as usize), *cause),
             Event::Restart { server, kept } => {
@@ -141,7 +149,8 @@ impl World {
         requires { enabled self.old event.now ≡ true }
         ensures ok { OnOk result (self.new ≡ step self.old event.now) }
 
-        // The law of runs (`docs/PROMISES.md`, "Every run is explained"), of each run that led here, with this event.
+        // The law of runs (`crates/world/README.md`, "Every run is explained"), of each run that led here, with this
+        // event.
         ensures law { OnOk result (LeadsOn self.old event.now self.new) }
     {
         let _setup = self.setup();
@@ -160,7 +169,7 @@ impl World {
                 places,
                 how,
             } => self.serve(alloc, *server, places, *how),
-            Event::Take { client, place } => self.take(alloc, *client, *place),
+            Event::Take { client, message } => self.take(alloc, *client, *message),
             Event::Hint {
                 client,
                 dir,
@@ -213,19 +222,21 @@ impl World {
         Ok(())
     }
 
-    fn take(&mut self, alloc: Global, client: u32, place: u64) -> Result<(), AllocError>
+    fn take(&mut self, alloc: Global, client: u32, message: u64) -> Result<(), AllocError>
         requires can { can_take (seat_at self.old.clients client) ≡ true }
-        requires is_for { is_for_client client (slice_get self.old.sent place) ≡ true }
-        ensures { OnOk result (self.new ≡ after_take self.old client (slice_get self.old.sent place) (seat_at self.old.clients client)) }
+        requires is_for { is_for_client client (slice_get self.old.sent message) ≡ true }
+        ensures { OnOk result
+            (self.new ≡ after_take self.old client (slice_get self.old.sent message)
+            (seat_at self.old.clients client)) }
     {
-        let msg = msg_at(&self.sent, place).unwrap();
+        let msg = msg_at(&self.sent, message).unwrap();
         let seat = &mut self.clients[client as usize - 1];
         let _ = seat.client.take(alloc, msg)?;
         Ok(())
     }
 
     fn hint(&mut self, client: u32, dir: u64, bitmap: &Bitmap) -> Result<(), AllocError>
-        requires { can_take (seat_at self.old.clients client) ≡ true }
+        requires { is_some (seat_at self.old.clients client) ≡ true }
         ensures { OnOk result (self.new ≡ after_hint self.old client dir bitmap.now (seat_at self.old.clients client)) }
     {
         let seat = &mut self.clients[client as usize - 1];
@@ -248,33 +259,36 @@ impl World {
     ) -> Result<(), AllocError>
         requires can { can_serve (slice_get self.old.servers server) ≡ true }
         requires serves { serves_at self.old.sent server places.now ≡ true }
-        ensures { OnOk result (self.new ≡ after_serve self.old server places.now how (slice_get self.old.servers server)) }
+        ensures { OnOk result
+            (self.new ≡ after_serve self.old server places.now how (slice_get self.old.servers server)) }
     {
-        let place = places.places()[0];
+        let message = places.places()[0];
         match how {
-            ServeEnd::Done => self.serve_done(alloc, server, place),
-            ServeEnd::Stop => self.serve_stopped(alloc, server, place),
+            ServeEnd::Done => self.serve_done(alloc, server, message),
+            ServeEnd::Stop => self.serve_stopped(alloc, server, message),
         }
     }
 
-    fn serve_done(&mut self, alloc: Global, server: u32, place: u64) -> Result<(), AllocError>
+    fn serve_done(&mut self, alloc: Global, server: u32, message: u64) -> Result<(), AllocError>
         requires can { can_serve (slice_get self.old.servers server) ≡ true }
-        requires is_for { is_for_server server (slice_get self.old.sent place) ≡ true }
-        ensures { OnOk result (self.new ≡ after_serve self.old server (place ∷ []) ServeEnd.Done (slice_get self.old.servers server)) }
+        requires is_for { is_for_server server (slice_get self.old.sent message) ≡ true }
+        ensures { OnOk result
+            (self.new ≡ after_serve self.old server (message ∷ []) ServeEnd.Done (slice_get self.old.servers server)) }
     {
-        let msg = msg_at(&self.sent, place).unwrap();
+        let msg = msg_at(&self.sent, message).unwrap();
         let state = &mut self.servers[server as usize];
         let mut outputs = state.serve(alloc, msg, self.moment)?;
         self.sent.append(&mut outputs)?;
         Ok(())
     }
 
-    fn serve_stopped(&mut self, alloc: Global, server: u32, place: u64) -> Result<(), AllocError>
+    fn serve_stopped(&mut self, alloc: Global, server: u32, message: u64) -> Result<(), AllocError>
         requires can { can_serve (slice_get self.old.servers server) ≡ true }
-        requires is_for { is_for_server server (slice_get self.old.sent place) ≡ true }
-        ensures { OnOk result (self.new ≡ after_serve self.old server (place ∷ []) ServeEnd.Stop (slice_get self.old.servers server)) }
+        requires is_for { is_for_server server (slice_get self.old.sent message) ≡ true }
+        ensures { OnOk result
+            (self.new ≡ after_serve self.old server (message ∷ []) ServeEnd.Stop (slice_get self.old.servers server)) }
     {
-        let msg = msg_at(&self.sent, place).unwrap();
+        let msg = msg_at(&self.sent, message).unwrap();
         let state = &mut self.servers[server as usize];
         state.stop_serving(alloc, msg, self.moment)?;
         Ok(())

@@ -11,5 +11,5 @@ invariant_of-self-2 c =
 
 pub returns : goal.returns
 returns c =
-    done_is _ c.args.self.now c.self.view_is c.args.server c.index_mut-state.result.now c.index_mut-state.ensures.value c.args.place c.unwrap-msg.result.now
+    done_is _ c.args.self.now c.self.view_is c.args.server c.index_mut-state.result.now c.index_mut-state.ensures.value c.args.message c.unwrap-msg.result.now
     (sym c.msg_at.ensures ∙ ap option_copied c.unwrap-msg.ensures) c.requires.can c.serve.new.self c.in_ok-outputs.outputs c.append.new.self c.in_ok-outputs.ensures.outputs c.in_ok-outputs.ensures.ok c.in_ok-append.ensures.ok

@@ -12,5 +12,5 @@ invariant_of-self-2 c =
 
 pub returns : goal.returns
 returns c =
-    take_is _ c.args.self.now c.self.view_is c.args.client c.index_mut-seat.result.now c.index_mut-seat.ensures.value c.args.place c.requires.can c.unwrap-msg.result.now
+    take_is _ c.args.self.now c.self.view_is c.args.client c.index_mut-seat.result.now c.index_mut-seat.ensures.value c.args.message c.requires.can c.unwrap-msg.result.now
     (sym c.msg_at.ensures ∙ ap option_copied c.unwrap-msg.ensures) c.take.new.self c.in_ok-take.ensures.ok.client'
