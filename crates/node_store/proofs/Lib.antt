@@ -4,6 +4,8 @@ pub mod ReadingLogs
 pub mod ReadingNodes
 pub mod ReadingRecords
 pub mod Restarting
+pub mod Damages
 pub mod Serving
 pub mod Standing
 pub mod Stores
+pub mod StandingOn

@@ -13,7 +13,7 @@ use Rattle.records.specs.declared.record.Record.TheVariants as records
 use Rattle.records.specs.Spelling.{IsRecord, IsHead, record_spelling}
 use Rattle.gate_log.specs.Log.{HoldsLog}
 use Rattle.gate_log.proofs.Unique.{one_log, no_log}
-use Rattle.node_core.specs.Nodes.{StoreV}
+use Rattle.node_core.specs.Nodes.{NodeAndRows}
 use Rattle.node_core.specs.Serving.{may_follow, replayed, replayed_all}
 use Rattle.node_store.specs.Damage.{NoneFollows, HasFirst, IsWrongAt, IsDamaged, head_spelling, wanted_head}
 use Rattle.node_store.specs.Stands.{StandFor, FileStandsFor, IsNewFile, IsBody, AreBodies, all_of, all_follow, head_of, new_store}
@@ -53,7 +53,7 @@ same_head : (x y : List ℕ) (xs ys : List (List ℕ)) → ◌≡◌ {A = List (
 same_head x y xs ys e = cc
 
 -- bodies stand for one store
-pub stand_once : (server : ℕ) (setup : Setup) (bodies others : List (List ℕ)) (a b : StoreV) → bodies ≡ others → StandFor server setup bodies a → StandFor server setup others b → a ≡ b
+pub stand_once : (server : ℕ) (setup : Setup) (bodies others : List (List ℕ)) (a b : NodeAndRows) → bodies ≡ others → StandFor server setup bodies a → StandFor server setup others b → a ≡ b
 stand_once server setup bodies others a b same s t =
     let rests = same_tail (record_spelling (head_of server setup)) (record_spelling (head_of server setup)) s.rest t.rest (sym s.head ∙ same ∙ t.head) in
     let items = one_each t.rest s.items t.items (subst (λ (r : List (List ℕ)). AreBodies r s.items) rests s.are) t.are in
@@ -65,10 +65,10 @@ pub new_has_none : (file body : List ℕ) (bodies : List (List ℕ)) → IsNewFi
 new_has_none file body bodies (inl short) holds = omega (arith, short, long_enough body file bodies holds)
 new_has_none file body bodies (inr none) holds = let e = one_log [] (body ∷ bodies) file none holds in cc
 
-pub new_stands_not : (server : ℕ) (setup : Setup) (file : List ℕ) (bodies : List (List ℕ)) (store : StoreV) → IsNewFile file → HoldsLog bodies file → StandFor server setup bodies store → ⊥
+pub new_stands_not : (server : ℕ) (setup : Setup) (file : List ℕ) (bodies : List (List ℕ)) (store : NodeAndRows) → IsNewFile file → HoldsLog bodies file → StandFor server setup bodies store → ⊥
 new_stands_not server setup file bodies store new holds s = new_has_none file (record_spelling (head_of server setup)) s.rest new (subst (λ (b : List (List ℕ)). HoldsLog b file) s.head holds)
 
-pub one_store : (server : ℕ) (setup : Setup) (file : List ℕ) (a b : StoreV) → FileStandsFor server setup file a → FileStandsFor server setup file b → a ≡ b
+pub one_store : (server : ℕ) (setup : Setup) (file : List ℕ) (a b : NodeAndRows) → FileStandsFor server setup file a → FileStandsFor server setup file b → a ≡ b
 one_store server setup file a b (inl new) (inl other) = new.1 ∙ sym other.1
 one_store server setup file a b (inl new) (inr log) = absurd (new_stands_not server setup file log.0 b new.0 log.1 log.2)
 one_store server setup file a b (inr log) (inl new) = absurd (new_stands_not server setup file log.0 a new.0 log.1 log.2)
@@ -97,7 +97,7 @@ all_of-append : (front back : List (List Record)) → all_of (front ++ back) ≡
 all_of-append [] back = refl
 all_of-append (x ∷ front) back = ap (λ (r : List Record). x ++ r) (all_of-append front back) ∙ sym (append_assoc x (all_of front) (all_of back))
 
-follow_rest : (store : StoreV) (xs ys : List Record) → all_follow store (xs ++ ys) ≡ true → all_follow (replayed_all store xs) ys ≡ true
+follow_rest : (store : NodeAndRows) (xs ys : List Record) → all_follow store (xs ++ ys) ≡ true → all_follow (replayed_all store xs) ys ≡ true
 follow_rest store [] ys follow = follow
 follow_rest store (x ∷ xs) ys follow = follow_rest (replayed store x) xs ys (and_parts (may_follow store x) (all_follow (replayed store x) (xs ++ ys)) follow).1
 
@@ -117,7 +117,7 @@ begins (x ∷ front) (y ∷ its) rest a b same =
     record { more = more.more; parts = ap (λ (r : Record). r ∷ its) first.0 ∙ ap (λ (rs : List Record). x ∷ rs) more.parts; each = more.each; spelled = more.spelled }
 
 -- where all records of a body follow, none of them stands wrong
-none_wrong : (store : StoreV) (front more : List Record) (rest : List ℕ) (back : List Record) → AllByRecursion IsRecord more → rest ≡ flat_map record_spelling more → all_follow store ((front ++ more) ++ back) ≡ true → 0 < length (front ++ more)
+none_wrong : (store : NodeAndRows) (front more : List Record) (rest : List ℕ) (back : List Record) → AllByRecursion IsRecord more → rest ≡ flat_map record_spelling more → all_follow store ((front ++ more) ++ back) ≡ true → 0 < length (front ++ more)
     → NoneFollows (replayed_all store front) rest → (rest ≡ [] → front ≡ []) → ⊥
 none_wrong store front [] rest back each spelled follow some none empty =
     let nothing : front ≡ [] = empty spelled in
@@ -127,7 +127,7 @@ none_wrong store front (x ∷ more) rest back each spelled follow some none empt
     let next = follow_rest store front (x ∷ (more ++ back)) here in
     none x (flat_map record_spelling more) each.0 (spelled ∙ spelled_more x more) (and_parts (may_follow (replayed_all store front) x) (all_follow (replayed (replayed_all store front) x) (more ++ back)) next).0
 
-wrong_not : (server : ℕ) (setup : Setup) (file : List ℕ) (place : ℕ) (bodies : List (List ℕ)) (store : StoreV) → HoldsLog bodies file → StandFor server setup bodies store → IsWrongAt server setup file place → ⊥
+wrong_not : (server : ℕ) (setup : Setup) (file : List ℕ) (place : ℕ) (bodies : List (List ℕ)) (store : NodeAndRows) → HoldsLog bodies file → StandFor server setup bodies store → IsWrongAt server setup file place → ⊥
 wrong_not server setup file place bodies store holds s w =
     let head = record_spelling (head_of server setup) in
     let new = new_store server setup in
@@ -138,10 +138,10 @@ wrong_not server setup file place bodies store holds s w =
     let whole : all_of s.items ≡ all_of a.front ++ (a.its ++ all_of a.back) = ap all_of a.parts ∙ all_of-append a.front (a.its ∷ a.back) in
     let at = replayed_all new (all_of a.front) in
     let follow : all_follow at (a.its ++ all_of a.back) ≡ true = follow_rest new (all_of a.front) (a.its ++ all_of a.back) (subst (λ (r : List Record). all_follow new r ≡ true) whole s.follow) in
-    let none : NoneFollows (replayed_all at w.front) w.rest = subst (λ (to : StoreV). NoneFollows to w.rest) (replayed_more new (all_of w.items) w.front ∙ ap (λ (i : List (List Record)). replayed_all (replayed_all new (all_of i)) w.front) (sym fronts)) w.none in
+    let none : NoneFollows (replayed_all at w.front) w.rest = subst (λ (to : NodeAndRows). NoneFollows to w.rest) (replayed_more new (all_of w.items) w.front ∙ ap (λ (i : List (List Record)). replayed_all (replayed_all new (all_of i)) w.front) (sym fronts)) w.none in
     none_wrong at w.front b.more w.rest (all_of a.back) b.each b.spelled (subst (λ (r : List Record). all_follow at (r ++ all_of a.back) ≡ true) b.parts follow) (subst (λ (r : List Record). 0 < length r) b.parts a.is.some) none w.empty
 
-first_is : (server : ℕ) (setup : Setup) (file body : List ℕ) (bodies : List (List ℕ)) (store : StoreV) → HoldsLog bodies file → StandFor server setup bodies store → HasFirst body file → body ≡ record_spelling (head_of server setup)
+first_is : (server : ℕ) (setup : Setup) (file body : List ℕ) (bodies : List (List ℕ)) (store : NodeAndRows) → HoldsLog bodies file → StandFor server setup bodies store → HasFirst body file → body ≡ record_spelling (head_of server setup)
 first_is server setup file body bodies store holds s first = same_head body (record_spelling (head_of server setup)) first.after s.rest (one_log (body ∷ first.after) bodies file first.holds holds ∙ s.head)
 
 abbrev as_head : Record → Head
@@ -152,7 +152,7 @@ foreign_not : (server : ℕ) (setup : Setup) (kept wanted : Head) → IsHead 1 s
 foreign_not server setup kept wanted is other wanted_is same =
     ap as_head (one_front (records.Head 1 kept.servers kept.server kept.threshold) (head_of server setup) [] [] other is (ap (λ (l : List ℕ). l ++ []) same)).0 ∙ sym wanted_is
 
-log_not_damaged : (server : ℕ) (setup : Setup) (file : List ℕ) (bodies : List (List ℕ)) (store : StoreV) (place : ℕ) (damage : Damage) → IsHead 1 setup.servers server setup.threshold → HoldsLog bodies file → StandFor server setup bodies store → IsDamaged server setup file place damage → ⊥
+log_not_damaged : (server : ℕ) (setup : Setup) (file : List ℕ) (bodies : List (List ℕ)) (store : NodeAndRows) (place : ℕ) (damage : Damage) → IsHead 1 setup.servers server setup.threshold → HoldsLog bodies file → StandFor server setup bodies store → IsDamaged server setup file place damage → ⊥
 log_not_damaged server setup file bodies store place damages.Spelling is holds s (long, inl short) = no_log bodies file place holds short
 log_not_damaged server setup file bodies store place damages.Spelling is holds s (long, inr (inl none)) = none.none (wanted_head server setup) is (first_is server setup file none.body bodies store holds s none.first)
 log_not_damaged server setup file bodies store place damages.Spelling is holds s (long, inr (inr wrong)) = wrong_not server setup file place bodies store holds s wrong
@@ -167,6 +167,6 @@ new_not_damaged server setup file place damages.Spelling (inr none) (long, inr (
 new_not_damaged server setup file place (damages.Sum kept found) new damaged = damaged
 new_not_damaged server setup file place (damages.Head kept wanted) new damaged = new_has_none file (head_spelling kept) damaged.first.after new damaged.first.holds
 
-pub not_damaged : (server : ℕ) (setup : Setup) (file : List ℕ) (store : StoreV) (place : ℕ) (damage : Damage) → IsHead 1 setup.servers server setup.threshold → FileStandsFor server setup file store → IsDamaged server setup file place damage → ⊥
+pub not_damaged : (server : ℕ) (setup : Setup) (file : List ℕ) (store : NodeAndRows) (place : ℕ) (damage : Damage) → IsHead 1 setup.servers server setup.threshold → FileStandsFor server setup file store → IsDamaged server setup file place damage → ⊥
 not_damaged server setup file store place damage is (inl new) damaged = new_not_damaged server setup file place damage new.0 damaged
 not_damaged server setup file store place damage is (inr log) damaged = log_not_damaged server setup file log.0 store place damage is log.1 log.2 damaged

@@ -13,7 +13,7 @@ use Rattle.records.specs.Spelling.{record_spelling}
 use Rattle.gate_log.specs.Log.{HoldsLog, IsBeforeOrAfter, log_length}
 use Rattle.gate_log.specs.LogState as logs
 use Rattle.gate_log.specs.LogState.{LogState, IsLogOf, IsReady, HasBodies}
-use Rattle.node_core.specs.Nodes.{NodeV, StoreV}
+use Rattle.node_core.specs.Nodes.{NodeV, NodeAndRows}
 use Rattle.node_store.specs.Opening.{StandsLike, StandAlike, IsAsBefore, IsOpenLog}
 use Rattle.node_store.specs.Reading.{IsRefusal, IsBad}
 use Rattle.node_store.specs.Stands.{FileStandsFor, IsBody, head_of, new_store, opened_store}
@@ -23,7 +23,7 @@ use Rattle.node_store.proofs.ReadingLogs.{stand_first}
 
 -- the file stands for each store for which the bytes stand once it was opened
 abbrev pub StandsOpened : ℕ → Setup → List ℕ → List ℕ → Type 0
-StandsOpened server setup bytes file = (store : StoreV) → FileStandsFor server setup bytes store → FileStandsFor server setup file (opened_store store)
+StandsOpened server setup bytes file = (store : NodeAndRows) → FileStandsFor server setup bytes store → FileStandsFor server setup file (opened_store store)
 
 -- an image is one from before, or stands for what the bytes stand for, or for what they stand for once it was opened
 abbrev pub IsAsOpened : ℕ → Setup → (Image → Type 0) → List ℕ → Image → Type 0
@@ -123,7 +123,7 @@ module _ {D : Type 0} (moment : D → ℕ) (since : D → ℕ → Image → Type
       still image (inr like) = inr (λ store stands. like store (alike.on store stands))
 
   -- and a third, which opens the store
-  pub then_opened : (old mid new : D) (seen seen' seen'' : Option (List ℕ)) (images : Image → Type 0) (store : StoreV) → OnKnown seen seen' (StandAlike server setup) → StaysTold seen' seen'' → OnTold seen' (λ bytes. FileStandsFor server setup bytes store)
+  pub then_opened : (old mid new : D) (seen seen' seen'' : Option (List ℕ)) (images : Image → Type 0) (store : NodeAndRows) → OnKnown seen seen' (StandAlike server setup) → StaysTold seen' seen'' → OnTold seen' (λ bytes. FileStandsFor server setup bytes store)
       → OnTold seen (λ bytes. LeavesOnly moment since old mid (IsAsBefore server setup images bytes)) → OnTold seen'' (λ _. LeavesOnly moment since mid new (StandsForEither server setup store (opened_store store)))
       → OnTold seen (λ bytes. LeavesOnly moment since old new (IsAsOpened server setup images bytes))
   then_opened old mid new None seen' seen'' images store alike told stands first second = tt
@@ -132,31 +132,31 @@ module _ {D : Type 0} (moment : D → ℕ) (since : D → ℕ → Image → Type
   then_opened old mid new (Some bytes) (Some file) (Some now) images store alike told stands first second =
       both moment since old mid new (IsAsBefore server setup images bytes) (StandsForEither server setup store (opened_store store)) (IsAsOpened server setup images bytes) first second (λ image left. inl left) either
     where
-      only : (other : StoreV) → FileStandsFor server setup bytes other → store ≡ other
+      only : (other : NodeAndRows) → FileStandsFor server setup bytes other → store ≡ other
       only other is = one_store server setup file store other stands (alike.on other is)
 
       either : (image : Image) → StandsForEither server setup store (opened_store store) image → IsAsOpened server setup images bytes image
       either image (inl here) = inl (inr (λ other is. subst (FileStandsFor server setup (image 1)) (only other is) here))
-      either image (inr here) = inr (λ other is. subst (λ (s : StoreV). FileStandsFor server setup (image 1) (opened_store s)) (only other is) here)
+      either image (inr here) = inr (λ other is. subst (λ (s : NodeAndRows). FileStandsFor server setup (image 1) (opened_store s)) (only other is) here)
 
 -- ---- one of several stores
 
-any_like : (server : ℕ) (setup : Setup) (stores : List StoreV) (bytes file : List ℕ) → StandsForAny server setup stores bytes → StandsLike server setup bytes file → StandsForAny server setup stores file
+any_like : (server : ℕ) (setup : Setup) (stores : List NodeAndRows) (bytes file : List ℕ) → StandsForAny server setup stores bytes → StandsLike server setup bytes file → StandsForAny server setup stores file
 any_like server setup [] bytes file any like = any
 any_like server setup (store ∷ stores) bytes file (inl one) like = inl (like store one)
 any_like server setup (store ∷ stores) bytes file (inr any) like = inr (any_like server setup stores bytes file any like)
 
-any_opened : (server : ℕ) (setup : Setup) (stores : List StoreV) (bytes file : List ℕ) → StandsForAny server setup stores bytes → StandsOpened server setup bytes file → StandsForAny server setup (map opened_store stores) file
+any_opened : (server : ℕ) (setup : Setup) (stores : List NodeAndRows) (bytes file : List ℕ) → StandsForAny server setup stores bytes → StandsOpened server setup bytes file → StandsForAny server setup (map opened_store stores) file
 any_opened server setup [] bytes file any opened = any
 any_opened server setup (store ∷ stores) bytes file (inl one) opened = inl (opened store one)
 any_opened server setup (store ∷ stores) bytes file (inr any) opened = inr (any_opened server setup stores bytes file any opened)
 
-any_front : (server : ℕ) (setup : Setup) (stores more : List StoreV) (file : List ℕ) → StandsForAny server setup stores file → StandsForAny server setup (stores ++ more) file
+any_front : (server : ℕ) (setup : Setup) (stores more : List NodeAndRows) (file : List ℕ) → StandsForAny server setup stores file → StandsForAny server setup (stores ++ more) file
 any_front server setup [] more file any = absurd any
 any_front server setup (store ∷ stores) more file (inl one) = inl one
 any_front server setup (store ∷ stores) more file (inr any) = inr (any_front server setup stores more file any)
 
-any_back : (server : ℕ) (setup : Setup) (stores more : List StoreV) (file : List ℕ) → StandsForAny server setup more file → StandsForAny server setup (stores ++ more) file
+any_back : (server : ℕ) (setup : Setup) (stores more : List NodeAndRows) (file : List ℕ) → StandsForAny server setup more file → StandsForAny server setup (stores ++ more) file
 any_back server setup [] more file any = any
 any_back server setup (store ∷ stores) more file any = inr (any_back server setup stores more file any)
 
@@ -171,29 +171,29 @@ shows_at None = tt
 shows_at (Some bytes) = refl
 
 module _ {D : Type 0} (moment : D → ℕ) (since : D → ℕ → Image → Type 0) (a b : D) (server : ℕ) (setup : Setup) (seen : Contents) (images : Image → Type 0) (reads : (image : Image) → Shows seen image → images image) where
-  any_image : (stores : List StoreV) (bytes : List ℕ) → StandsForAny server setup stores bytes → KeepsAny images server setup stores → (image : Image) → IsAsOpened server setup images bytes image → StandsForAny server setup (stores ++ map opened_store stores) (image 1)
+  any_image : (stores : List NodeAndRows) (bytes : List ℕ) → StandsForAny server setup stores bytes → KeepsAny images server setup stores → (image : Image) → IsAsOpened server setup images bytes image → StandsForAny server setup (stores ++ map opened_store stores) (image 1)
   any_image stores bytes any keeps image (inl (inl was)) = any_front server setup stores (map opened_store stores) (image 1) (keeps image was)
   any_image stores bytes any keeps image (inl (inr like)) = any_front server setup stores (map opened_store stores) (image 1) (any_like server setup stores bytes (image 1) any like)
   any_image stores bytes any keeps image (inr opened) = any_back server setup stores (map opened_store stores) (image 1) (any_opened server setup stores bytes (image 1) any opened)
 
-  told_now : (stores : List StoreV) (bytes : List ℕ) → seen 1 ≡ Some bytes → KeepsAny images server setup stores → StandsForAny server setup stores bytes
+  told_now : (stores : List NodeAndRows) (bytes : List ℕ) → seen 1 ≡ Some bytes → KeepsAny images server setup stores → StandsForAny server setup stores bytes
   unfolding bytes_of
   told_now stores bytes is keeps = subst (λ (told : Option (List ℕ)). StandsForAny server setup stores (bytes_of told)) is (keeps (λ file. bytes_of (seen file)) (reads (λ file. bytes_of (seen file)) (λ file. shows_at (seen file))))
 
   -- at each moment of an opening each image stands for one of the stores from before, or for one of them opened
   pub any_moments : OnTold (seen 1) (λ bytes. LeavesOnly moment since a b (IsAsOpened server setup images bytes))
-      → OnTold (seen 1) (λ _. (stores : List StoreV) → KeepsAny images server setup stores → LeavesOnly moment since a b (λ image. StandsForAny server setup (stores ++ map opened_store stores) (image 1)))
+      → OnTold (seen 1) (λ _. (stores : List NodeAndRows) → KeepsAny images server setup stores → LeavesOnly moment since a b (λ image. StandsForAny server setup (stores ++ map opened_store stores) (image 1)))
   any_moments leaves = go (seen 1) refl leaves
     where
       go : (told : Option (List ℕ)) → seen 1 ≡ told → OnTold told (λ bytes. LeavesOnly moment since a b (IsAsOpened server setup images bytes))
-          → OnTold told (λ _. (stores : List StoreV) → KeepsAny images server setup stores → LeavesOnly moment since a b (λ image. StandsForAny server setup (stores ++ map opened_store stores) (image 1)))
+          → OnTold told (λ _. (stores : List NodeAndRows) → KeepsAny images server setup stores → LeavesOnly moment since a b (λ image. StandsForAny server setup (stores ++ map opened_store stores) (image 1)))
       go None is left = tt
       go (Some bytes) is left = λ stores keeps. leaves_weaker moment since a b (IsAsOpened server setup images bytes) (λ image. StandsForAny server setup (stores ++ map opened_store stores) (image 1)) (any_image stores bytes (told_now stores bytes is keeps) keeps) left
 
 -- ---- what was opened, and what is damaged
 
-pub stood_before : (server : ℕ) (setup : Setup) (seen seen' : Option (List ℕ)) (store opened : StoreV) → OnKnown seen seen' (StandAlike server setup) → OnTold seen' (λ bytes. FileStandsFor server setup bytes store) → opened ≡ opened_store store
-    → OnTold seen (λ bytes. (before : StoreV) × FileStandsFor server setup bytes before × (opened ≡ opened_store before))
+pub stood_before : (server : ℕ) (setup : Setup) (seen seen' : Option (List ℕ)) (store opened : NodeAndRows) → OnKnown seen seen' (StandAlike server setup) → OnTold seen' (λ bytes. FileStandsFor server setup bytes store) → opened ≡ opened_store store
+    → OnTold seen (λ bytes. (before : NodeAndRows) × FileStandsFor server setup bytes before × (opened ≡ opened_store before))
 stood_before server setup None seen' store opened alike stands is = tt
 stood_before server setup (Some bytes) None store opened alike stands is = absurd alike
 stood_before server setup (Some bytes) (Some file) store opened alike stands is = (store, alike.back store stands, is)

@@ -11,7 +11,7 @@ use Rattle.records.specs.Spelling.{record_spelling}
 use Rattle.gate_log.specs.Log.{HoldsLog, log_bytes}
 use Rattle.gate_log.specs.LogState.{LogState}
 use Rattle.gate_log.specs.Calls.{HasRead, ReadsOn}
-use Rattle.node_core.specs.Nodes.{StoreV}
+use Rattle.node_core.specs.Nodes.{NodeAndRows}
 use Rattle.node_core.specs.Serving.{replayed_all}
 use Rattle.node_store.specs.Damage.{NoneFollows, IsWrongAt}
 use Rattle.node_store.specs.Stands.{StandFor, all_of, all_follow, head_of, new_store}
@@ -26,7 +26,7 @@ pub stand_first : (server : ℕ) (setup : Setup) (body : List ℕ) → body ≡ 
 stand_first server setup body is = record { rest = []; items = []; head = ap (λ (b : List ℕ). b ∷ []) is; are = tt; follow = refl; leads = refl }
 
 -- one body more, whose records may follow
-pub stand_on : (server : ℕ) (setup : Setup) (bodies : List (List ℕ)) (old new : StoreV) (body : List ℕ) → StandFor server setup bodies old → LeadsOn old body new → StandFor server setup (bodies ++ body ∷ []) new
+pub stand_on : (server : ℕ) (setup : Setup) (bodies : List (List ℕ)) (old new : NodeAndRows) (body : List ℕ) → StandFor server setup bodies old → LeadsOn old body new → StandFor server setup (bodies ++ body ∷ []) new
 stand_on server setup bodies old new body s leads = subst (StandFor server setup (bodies ++ body ∷ [])) (sym leads.leads) (stand_more server setup bodies old body leads.items s leads.is leads.follow)
 
 -- ---- what a refusal says
@@ -75,15 +75,15 @@ abbrev pub Reads : Option (List ℕ) → Option (List ℕ) → LogState → ℕ 
 Reads seen seen' log at next body = (read : List (List ℕ)) → OnTold seen (HasRead log at read) → OnTold seen' (ReadsOn log read next body)
 
 module _ (server : ℕ) (setup : Setup) (log : LogState) (at : ℕ) where
-  ended : (seen : Option (List ℕ)) (body : List ℕ) (store : StoreV) → Reads seen seen log at None body → OnTold seen (HasReplayed server setup log at store) → OnTold seen (HoldsStore server setup log store)
+  ended : (seen : Option (List ℕ)) (body : List ℕ) (store : NodeAndRows) → Reads seen seen log at None body → OnTold seen (HasReplayed server setup log at store) → OnTold seen (HoldsStore server setup log store)
   ended None body store reads has = tt
   ended (Some bytes) body store reads has = record { bodies = has.bodies; is = reads has.bodies has.has; stands = has.stands }
 
-  went_on : (seen : Option (List ℕ)) (next : ℕ) (body : List ℕ) (old new : StoreV) → Reads seen seen log at (Some next) body → LeadsOn old body new → OnTold seen (HasReplayed server setup log at old) → OnTold seen (HasReplayed server setup log next new)
+  went_on : (seen : Option (List ℕ)) (next : ℕ) (body : List ℕ) (old new : NodeAndRows) → Reads seen seen log at (Some next) body → LeadsOn old body new → OnTold seen (HasReplayed server setup log at old) → OnTold seen (HasReplayed server setup log next new)
   went_on None next body old new reads leads has = tt
   went_on (Some bytes) next body old new reads leads has = record { bodies = has.bodies ++ body ∷ []; has = reads has.bodies has.has; stands = stand_on server setup has.bodies old new body has.stands leads }
 
-  wrong_at : (next place : ℕ) (body bytes : List ℕ) (old : StoreV) → HasReplayed server setup log at old bytes → ((read : List (List ℕ)) → HasRead log at read bytes → HasRead log next (read ++ body ∷ []) bytes) → IsWrongWithin old body place → IsWrongAt server setup bytes (at + 5 + place)
+  wrong_at : (next place : ℕ) (body bytes : List ℕ) (old : NodeAndRows) → HasReplayed server setup log at old bytes → ((read : List (List ℕ)) → HasRead log at read bytes → HasRead log next (read ++ body ∷ []) bytes) → IsWrongWithin old body place → IsWrongAt server setup bytes (at + 5 + place)
   wrong_at next place body bytes old has reads wrong =
       let s = has.stands in
       let read = reads has.bodies has.has in
@@ -100,13 +100,13 @@ module _ (server : ℕ) (setup : Setup) (log : LogState) (at : ℕ) where
         each = wrong.each;
         rest = wrong.rest;
         split = wrong.split;
-        follow = follow_more new (all_of s.items) wrong.front s.follow (subst (λ (store : StoreV). all_follow store wrong.front ≡ true) s.leads wrong.follow);
-        none = subst (λ (store : StoreV). NoneFollows store wrong.rest) (ap (λ (store : StoreV). replayed_all store wrong.front) s.leads ∙ sym (replayed_more new (all_of s.items) wrong.front)) wrong.none;
+        follow = follow_more new (all_of s.items) wrong.front s.follow (subst (λ (store : NodeAndRows). all_follow store wrong.front ≡ true) s.leads wrong.follow);
+        none = subst (λ (store : NodeAndRows). NoneFollows store wrong.rest) (ap (λ (store : NodeAndRows). replayed_all store wrong.front) s.leads ∙ sym (replayed_more new (all_of s.items) wrong.front)) wrong.none;
         empty = wrong.empty;
         place_is = omega (arith, has.has.at.place_is, ap (λ (b : List (List ℕ)). length (log_bytes b)) s.head, wrong.place_is);
       }
 
-  went_wrong : (seen : Option (List ℕ)) (next place : ℕ) (body : List ℕ) (old : StoreV) → Reads seen seen log at (Some next) body → IsWrongWithin old body place → OnTold seen (HasReplayed server setup log at old) → OnTold seen (IsBad server setup (at + 5 + place) damages.Spelling)
+  went_wrong : (seen : Option (List ℕ)) (next place : ℕ) (body : List ℕ) (old : NodeAndRows) → Reads seen seen log at (Some next) body → IsWrongWithin old body place → OnTold seen (HasReplayed server setup log at old) → OnTold seen (IsBad server setup (at + 5 + place) damages.Spelling)
   went_wrong None next place body old reads wrong has = tt
   went_wrong (Some bytes) next place body old reads wrong has =
       let w = wrong_at next place body bytes old has reads wrong in
@@ -116,11 +116,11 @@ module _ (seen seen' : Option (List ℕ)) (same : seen' ≡ seen) (server : ℕ)
   still : (next : Option ℕ) → Reads seen seen' log at next body → Reads seen seen log at next body
   still next reads = subst (λ (s : Option (List ℕ)). Reads seen s log at next body) same reads
 
-  pub ends_there : (store : StoreV) → Reads seen seen' log at None body → OnTold seen (HasReplayed server setup log at store) → OnTold seen' (HoldsStore server setup log store)
+  pub ends_there : (store : NodeAndRows) → Reads seen seen' log at None body → OnTold seen (HasReplayed server setup log at store) → OnTold seen' (HoldsStore server setup log store)
   ends_there store reads has = subst (λ (s : Option (List ℕ)). OnTold s (HoldsStore server setup log store)) (sym same) (ended server setup log at seen body store (still None reads) has)
 
-  pub goes_on_there : (next : ℕ) (old new : StoreV) → Reads seen seen' log at (Some next) body → LeadsOn old body new → OnTold seen (HasReplayed server setup log at old) → OnTold seen' (HasReplayed server setup log next new)
+  pub goes_on_there : (next : ℕ) (old new : NodeAndRows) → Reads seen seen' log at (Some next) body → LeadsOn old body new → OnTold seen (HasReplayed server setup log at old) → OnTold seen' (HasReplayed server setup log next new)
   goes_on_there next old new reads leads has = subst (λ (s : Option (List ℕ)). OnTold s (HasReplayed server setup log next new)) (sym same) (went_on server setup log at seen next body old new (still (Some next) reads) leads has)
 
-  pub is_wrong_there : (next place : ℕ) (old : StoreV) → Reads seen seen' log at (Some next) body → IsWrongWithin old body place → OnTold seen (HasReplayed server setup log at old) → OnTold seen (IsBad server setup (at + 5 + place) damages.Spelling)
+  pub is_wrong_there : (next place : ℕ) (old : NodeAndRows) → Reads seen seen' log at (Some next) body → IsWrongWithin old body place → OnTold seen (HasReplayed server setup log at old) → OnTold seen (IsBad server setup (at + 5 + place) damages.Spelling)
   is_wrong_there next place old reads wrong has = went_wrong server setup log at seen next place body old (still (Some next) reads) wrong has

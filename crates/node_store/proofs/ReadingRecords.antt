@@ -20,7 +20,7 @@ use Rattle.records.proofs.Changes.{ChangeParts, change_parts}
 use Rattle.records.proofs.Decoding.{same_ok}
 use Rattle.records.proofs.ToCome.{Reads}
 use Rattle.records.proofs.Records.{record_reads}
-use Rattle.node_core.specs.Nodes.{NodeV, StoreV}
+use Rattle.node_core.specs.Nodes.{NodeV, NodeAndRows}
 use Rattle.node_core.specs.Ranges.{RecordFits}
 use Rattle.mds_base.specs.Calls.{dir_of}
 use Rattle.node_core.specs.Serving.{may_follow, replayed, replayed_all, IsReplayed}
@@ -78,7 +78,7 @@ only_front bytes item count spells other more is parts =
     (one_front other item more (drop count bytes) is spells.0 (sym parts ∙ whole)).0
 
 -- where that one may not follow, none does
-pub none_follows : (store : StoreV) (bytes : List ℕ) (item : Record) (count : ℕ) → Spells (take count bytes) item → may_follow store item ≡ false → NoneFollows store bytes
+pub none_follows : (store : NodeAndRows) (bytes : List ℕ) (item : Record) (count : ℕ) → Spells (take count bytes) item → may_follow store item ≡ false → NoneFollows store bytes
 none_follows store bytes item count spells not other more is parts follows =
     let same = only_front bytes item count spells other more is parts in
     let both : false ≡ true = sym not ∙ ap (may_follow store) (sym same) ∙ follows in
@@ -106,7 +106,7 @@ head_longer body item count longer within spells head begins spelled =
     let none = (one_front item (Begins 1 head.servers head.server head.threshold) (drop count body) [] spells.0 begins (sym whole ∙ spelled ∙ sym (append-nil (record_spelling (Begins 1 head.servers head.server head.threshold))))).1 in
     longer (omega (arith, ap length none, length-drop count body))
 
-pub nothing_follows : (store : StoreV) (bytes : List ℕ) → IsFrontOf bytes None → NoneFollows store bytes
+pub nothing_follows : (store : NodeAndRows) (bytes : List ℕ) → IsFrontOf bytes None → NoneFollows store bytes
 nothing_follows store bytes none item more is parts follows = none item more is parts
 
 -- ---- which records a node replays
@@ -134,10 +134,10 @@ fits (Install dir part depth bitmap sessions rows) is = tt
 fits (End dir part depth) is = tt
 fits (Served client seq part call said) is = call_fits call (change_parts 0 call is.change)
 
-abbrev with : NodeV → RowMap → StoreV
+abbrev with : NodeV → RowMap → NodeAndRows
 with node rows = record { node = node; rows = rows }
 
-pub took : (old : StoreV) (bytes : List ℕ) (item : Record) (count : ℕ) (new : StoreV) → count ≤ length bytes → Spells (take count bytes) item → IsReplayed old item new.node new.rows true → TakesRecord old bytes count new
+pub took : (old : NodeAndRows) (bytes : List ℕ) (item : Record) (count : ℕ) (new : NodeAndRows) → count ≤ length bytes → Spells (take count bytes) item → IsReplayed old item new.node new.rows true → TakesRecord old bytes count new
 took old bytes item count new within spells replay = record {
   item = item;
   within = within;
@@ -148,7 +148,7 @@ took old bytes item count new within spells replay = record {
 
 -- ---- a body record by record
 
-pub none_read : (store : StoreV) (body : List ℕ) → IsRead store body 0 store
+pub none_read : (store : NodeAndRows) (body : List ℕ) → IsRead store body 0 store
 none_read store body = record { front = []; each = tt; within = omega arith; split = refl; follow = refl; leads = refl; empty = λ e. refl }
 
 -- the bytes from a place on
@@ -156,7 +156,7 @@ pub from_place : (place : ℕ) (body : List ℕ) → take (length body - place) 
 from_place place body = take_all (length body - place) (drop place body) (omega (arith, length-drop place body))
 
 -- one record more
-pub record ReadsOn (old : StoreV) (body : List ℕ) (place count : ℕ) (new : StoreV) : Type 0 where
+pub record ReadsOn (old : NodeAndRows) (body : List ℕ) (place count : ℕ) (new : NodeAndRows) : Type 0 where
   pub onward : 0 < count
   pub within : place + count ≤ length body
   pub front : List Record
@@ -166,7 +166,7 @@ pub record ReadsOn (old : StoreV) (body : List ℕ) (place count : ℕ) (new : S
   pub follow : all_follow old front ≡ true
   pub leads : new ≡ replayed_all old front
 
-pub reads_on : (old mid new : StoreV) (body rest : List ℕ) (place count : ℕ) → IsRead old body place mid → rest ≡ drop place body → TakesRecord mid rest count new → ReadsOn old body place count new
+pub reads_on : (old mid new : NodeAndRows) (body rest : List ℕ) (place count : ℕ) → IsRead old body place mid → rest ≡ drop place body → TakesRecord mid rest count new → ReadsOn old body place count new
 reads_on old mid new body rest place count so_far rest_is takes =
     let item = takes.item in
     let bytes : take count (drop place body) ≡ record_spelling item = ap (take count) (sym rest_is) ∙ takes.spelled.1 in
@@ -179,12 +179,12 @@ reads_on old mid new body rest place count so_far rest_is takes =
       each = each_append so_far.front (item ∷ []) so_far.each (takes.spelled.0, tt);
       some = omega (arith, length-append so_far.front (item ∷ []));
       split = take-add place count body ∙ ap (λ (l : List ℕ). l ++ take count (drop place body)) so_far.split ∙ ap (λ (l : List ℕ). flat_map record_spelling so_far.front ++ l) (bytes ∙ sym (append-nil (record_spelling item))) ∙ sym (flat_map-append record_spelling so_far.front (item ∷ []));
-      follow = follow_more old so_far.front (item ∷ []) so_far.follow (and_from (may_follow (replayed_all old so_far.front) item) true (subst (λ (s : StoreV). may_follow s item ≡ true) so_far.leads takes.follows) refl);
-      leads = takes.leads ∙ ap (λ (s : StoreV). replayed s item) so_far.leads ∙ sym (replayed_more old so_far.front (item ∷ []));
+      follow = follow_more old so_far.front (item ∷ []) so_far.follow (and_from (may_follow (replayed_all old so_far.front) item) true (subst (λ (s : NodeAndRows). may_follow s item ≡ true) so_far.leads takes.follows) refl);
+      leads = takes.leads ∙ ap (λ (s : NodeAndRows). replayed s item) so_far.leads ∙ sym (replayed_more old so_far.front (item ∷ []));
     }
 
 -- the body goes on
-pub goes_on : (old new : StoreV) (body : List ℕ) (place count : ℕ) → ReadsOn old body place count new → place + count ≢ length body → IsRead old body (place + count) new
+pub goes_on : (old new : NodeAndRows) (body : List ℕ) (place count : ℕ) → ReadsOn old body place count new → place + count ≢ length body → IsRead old body (place + count) new
 goes_on old new body place count on more = record {
   front = on.front;
   each = on.each;
@@ -196,7 +196,7 @@ goes_on old new body place count on more = record {
 }
 
 -- the body was read whole
-pub ends : (old new : StoreV) (body : List ℕ) (place count : ℕ) → ReadsOn old body place count new → place + count ≡ length body → LeadsOn old body new
+pub ends : (old new : NodeAndRows) (body : List ℕ) (place count : ℕ) → ReadsOn old body place count new → place + count ≡ length body → LeadsOn old body new
 ends old new body place count on all = record {
   items = on.front;
   is = record { some = on.some; each = on.each; spelled = sym (take_all (place + count) body (omega arith)) ∙ on.split };
@@ -205,14 +205,14 @@ ends old new body place count on all = record {
 }
 
 -- a record may not stand here
-pub goes_wrong : (old mid : StoreV) (body rest : List ℕ) (place : ℕ) → IsRead old body place mid → rest ≡ drop place body → NoneFollows mid rest → IsWrongWithin old body place
+pub goes_wrong : (old mid : NodeAndRows) (body rest : List ℕ) (place : ℕ) → IsRead old body place mid → rest ≡ drop place body → NoneFollows mid rest → IsWrongWithin old body place
 goes_wrong old mid body rest place so_far rest_is none = record {
   front = so_far.front;
   each = so_far.each;
   rest = rest;
   split = sym (take-append-drop place body) ∙ ap (λ (l : List ℕ). l ++ drop place body) so_far.split ∙ ap (λ (l : List ℕ). flat_map record_spelling so_far.front ++ l) (sym rest_is);
   follow = so_far.follow;
-  none = subst (λ (s : StoreV). NoneFollows s rest) so_far.leads none;
+  none = subst (λ (s : NodeAndRows). NoneFollows s rest) so_far.leads none;
   empty = λ (e : rest ≡ []). so_far.empty (let within = so_far.within in omega (arith, ap length e, ap length rest_is, length-drop place body));
   place_is = sym (length-take-le place body so_far.within) ∙ ap length so_far.split;
 }

@@ -1,9 +1,10 @@
 -- What a restarted server is brought back with.
-use Rattle.std.proofs.Common.{◌≡◌, ◌∙◌, sym, ap, subst, refl, ℕ, ◌<◌, ◌≤◌, length, take, List, [], ◌∷◌, ◌++◌, Bool, true, false, cond, nat_lt, arith, Option, Some, None, unwrap_or, inl, inr, Result, Ok, Err, IfErr, OnErr, IsErrAnd}
-use Rattle.std.proofs.lemmas.Bool.{le-ltb, lt-ltb}
-use Rattle.std.proofs.lemmas.List.{take_all}
+use Rattle.std.proofs.Common.{◌≡◌, ◌∙◌, sym, ap, subst, refl, ℕ, ◌<◌, ◌≤◌, length, take, List, [], ◌∷◌, ◌++◌, Bool, true, false, cond, nat_lt, leb, arith, Option, Some, None, unwrap_or, inl, inr, Result, Ok, Err, IfErr, OnErr, IsErrAnd}
+use Rattle.std.proofs.lemmas.Bool.{le-ltb, lt-ltb, leb-true, leb-false}
+use Rattle.std.proofs.lemmas.List.{take_all, length-append}
 use Rattle.mds_base.specs.declared.setup.Setup.{Setup}
 use Rattle.mds_base.specs.declared.store_fault.Damage.{Damage}
+use Rattle.mds_base.specs.declared.store_fault.Damage.TheVariants as damages
 use Rattle.mds_base.specs.declared.store_fault.StoreFault.{StoreFault}
 use Rattle.mds_base.specs.declared.store_fault.StoreFault.TheVariants as faults
 use Rattle.records.specs.declared.record.Record.{Record}
@@ -11,22 +12,23 @@ use Rattle.records.specs.Spelling.{IsHead, record_spelling}
 use Rattle.gate_log.specs.declared.gate_log.LogFault.{LogFault}
 use Rattle.gate_log.specs.declared.gate_log.LogFault.TheVariants as log_faults
 use Rattle.gate_log.specs.Calls.{IsOpenAnswer}
-use Rattle.gate_log.specs.Log.{HoldsLog, IsCutShort, log_length}
+use Rattle.gate_log.specs.Log.{HoldsLog, IsCutShort, log_bytes, log_length}
 use Rattle.gate_log.specs.LogState.{LogState, IsLogOf, IsReady}
 use Rattle.gate_log.specs.LogState as logs
 use Rattle.gate_log.proofs.Frames.{longer}
-use Rattle.gate_log.proofs.Unique.{one_log, no_log}
+use Rattle.gate_log.proofs.Lengths.{gate_place_is}
+use Rattle.gate_log.proofs.Unique.{one_log}
 use Rattle.mds_out.specs.Disk.{Image, Contents, Shows, StaysTold}
 use Rattle.mds_out.specs.Known.{OnTold}
-use Rattle.node_core.specs.Nodes.{StoreV}
+use Rattle.node_core.specs.Nodes.{NodeAndRows}
 use Rattle.node_core.specs.Serving.{replayed_all}
-use Rattle.node_store.specs.Damage.{IsDamaged}
-use Rattle.node_store.specs.Reading.{IsRefusal, IsBad, store_fault_of}
+use Rattle.node_store.specs.Damage.{IsDamagedAtRestart}
+use Rattle.node_store.specs.Reading.{IsRefusal, IsBad, IsBadAtRestart, store_fault_of}
 use Rattle.node_store.specs.Serve.{IsAllOrNone}
-use Rattle.node_store.specs.Stands.{StandFor, StandsForNone, all_follow, head_of}
+use Rattle.node_store.specs.Stands.{StandFor, StandsForNone, IsNewFile, all_follow, head_of}
 use Rattle.node_store.specs.Store.{HoldsStore, HasDoubt, LeavesDoubt}
 use Rattle.node_store.proofs.OpeningLaws.{stand_once, not_damaged}
-use Rattle.node_store.proofs.ReadingLogs.{refused_more}
+use Rattle.node_store.proofs.ReadingLogs.{refused_more, long_enough}
 use Rattle.node_store.proofs.Standing.{stand_more}
 
 -- ---- what the exit of a `?` returns
@@ -77,7 +79,7 @@ none_kept before after doubt same = ap (λ (b : Bool). take (cond b (length doub
 all_kept : (before after : ℕ) (doubt : List Record) → before < after → take (kept_of before after doubt) doubt ≡ doubt
 all_kept before after doubt more = ap (λ (b : Bool). take (cond b (length doubt) 0) doubt) (lt-ltb before after more) ∙ take_all (length doubt) doubt (omega arith)
 
-module _ (server : ℕ) (setup : Setup) (store new : StoreV) (doubt : List Record) (bodies : List (List ℕ)) (s : StandFor server setup bodies store) (follow : all_follow store doubt ≡ true) (before after : ℕ) (ends : before ≡ log_length bodies) where
+module _ (server : ℕ) (setup : Setup) (store new : NodeAndRows) (doubt : List Record) (bodies : List (List ℕ)) (s : StandFor server setup bodies store) (follow : all_follow store doubt ≡ true) (before after : ℕ) (ends : before ≡ log_length bodies) where
   -- the log holds the bodies with the records in doubt, or without
   kept_bodies : (file : List ℕ) (has : List (List ℕ)) → after ≡ log_length has → HoldsLog has file → StandFor server setup has new → HasDoubt bodies doubt file → new ≡ replayed_all store (take (kept_of before after doubt) doubt)
   kept_bodies file has ends' holds stands (inl old) =
@@ -90,9 +92,9 @@ module _ (server : ℕ) (setup : Setup) (store new : StoreV) (doubt : List Recor
       stand_once server setup has whole new (replayed_all store doubt) same stands (stand_more server setup bodies store more.0 doubt s more.1 follow)
       ∙ ap (replayed_all store) (sym (all_kept before after doubt (omega (arith, ends', ap log_length same, ends, size))))
 
-module _ (server : ℕ) (setup : Setup) (log : LogState) (store : StoreV) (doubt : List Record) where
+module _ (server : ℕ) (setup : Setup) (log : LogState) (store : NodeAndRows) (doubt : List Record) where
   -- what a restart brings back, where the disk tells it
-  pub brought_back : (told told' : Option (List ℕ)) (images : Image → Type 0) (log' : LogState) (new : StoreV) (kept : ℕ) → StaysTold told told' → kept ≡ kept_of log.length log'.length doubt → OnTold told' (λ bytes. (image : Image) × images image × (image 1 ≡ bytes))
+  pub brought_back : (told told' : Option (List ℕ)) (images : Image → Type 0) (log' : LogState) (new : NodeAndRows) (kept : ℕ) → StaysTold told told' → kept ≡ kept_of log.length log'.length doubt → OnTold told' (λ bytes. (image : Image) × images image × (image 1 ≡ bytes))
       → OnTold told' (HoldsStore server setup log' new) → OnTold told (λ _. LeavesDoubt images server setup log store doubt) → OnTold told' (λ _. new ≡ replayed_all store (take kept doubt))
   brought_back None None images log' new kept stays is left holds owed = tt
   brought_back None (Some bytes) images log' new kept stays is left holds owed = absurd stays
@@ -109,55 +111,74 @@ module _ (server : ℕ) (setup : Setup) (log : LogState) (store : StoreV) (doubt
   still_owed (Some before) None images images' stays old owed = tt
   still_owed (Some before) (Some bytes) images images' stays old owed = record { bodies = owed.bodies; stands = owed.stands; ends = owed.ends; follow = owed.follow; each = λ image now. owed.each image (old image now) }
 
-  doubt_stands : (bodies : List (List ℕ)) (file : List ℕ) → StandFor server setup bodies store → all_follow store doubt ≡ true → HasDoubt bodies doubt file → StandsForNone server setup file → ⊥
-  doubt_stands bodies file s follow (inl old) none = none bodies store old s
-  doubt_stands bodies file s follow (inr more) none = none (bodies ++ more.0 ∷ []) (replayed_all store doubt) more.2 (stand_more server setup bodies store more.0 doubt s more.1 follow)
-
-  -- a disk that owes a store is not damaged
-  pub not_bad : (told told' : Option (List ℕ)) (images : Image → Type 0) (fault : StoreFault) → StaysTold told told' → OnTold told' (λ bytes. (image : Image) × images image × (image 1 ≡ bytes)) → OnTold told (λ _. LeavesDoubt images server setup log store doubt)
-      → IsRefusal (λ _ _. StandsForNone server setup) told' fault → IsRefusal (λ _ _ _. ⊥) told' fault
-  not_bad told told' images faults.Device stays left owed is = is
-  not_bad told told' images faults.Stopped stays left owed is = is
-  not_bad None None images (faults.Damaged file place damage) stays left owed is = is
-  not_bad None (Some bytes) images (faults.Damaged file place damage) stays left owed is = absurd stays
-  not_bad (Some before) None images (faults.Damaged file place damage) stays left owed is = is
-  not_bad (Some before) (Some bytes) images (faults.Damaged file place damage) stays left owed is =
-      absurd (doubt_stands owed.bodies bytes owed.stands owed.follow (subst (HasDoubt owed.bodies doubt) left.2 (owed.each left.0 left.1)) is.1)
-  not_bad told told' images faults.Room stays left owed is = is
-  not_bad told told' images faults.OutOfMemory stays left owed is = is
-
-pub some_of : (told : Option (List ℕ)) (new other store : StoreV) → other ≡ new → OnTold told (λ _. new ≡ store) → OnTold told (λ _. Some other ≡ Some store)
+pub some_of : (told : Option (List ℕ)) (new other store : NodeAndRows) → other ≡ new → OnTold told (λ _. new ≡ store) → OnTold told (λ _. Some other ≡ Some store)
 some_of None new other store same is = tt
-some_of (Some bytes) new other store same is = ap (λ (s : StoreV). Some s) (same ∙ is)
+some_of (Some bytes) new other store same is = ap (λ (s : NodeAndRows). Some s) (same ∙ is)
 
--- ---- logs that stand for no store
+-- ---- logs that are damaged
 
 no_body : (bodies : List (List ℕ)) → log_length bodies ≤ 1 → bodies ≡ []
 no_body [] few = refl
 no_body (body ∷ bodies) few = absurd (omega arith)
 
-empty_stands_not : (server : ℕ) (setup : Setup) (file : List ℕ) (bodies : List (List ℕ)) → HoldsLog bodies file → bodies ≡ [] → StandsForNone server setup file
-empty_stands_not server setup file bodies holds none others store other stands =
-    let same : [] ≡ record_spelling (head_of server setup) ∷ stands.rest = sym none ∙ one_log bodies others file holds other ∙ stands.head in
+-- at a restart the head is missed
+new_stands_not : (server : ℕ) (setup : Setup) (file : List ℕ) → IsNewFile file → StandsForNone server setup file
+new_stands_not server setup file (inl few) bodies store holds stands =
+    absurd (let long = long_enough (record_spelling (head_of server setup)) file stands.rest (subst (λ bs. HoldsLog bs file) stands.head holds) in omega (arith, few, long))
+new_stands_not server setup file (inr none) bodies store holds stands =
+    let same : [] ≡ record_spelling (head_of server setup) ∷ stands.rest = one_log [] bodies file none holds ∙ stands.head in
     cc
 
-pub headless : (told : Option (List ℕ)) (server : ℕ) (setup : Setup) (log : LogState) (images : Image → Type 0) → log.length ≤ 1 → OnTold told (logs.IsKept log images) → OnTold told (StandsForNone server setup)
+pub at_restart_stands_not : (server : ℕ) (setup : Setup) (file : List ℕ) (offset : ℕ) (damage : Damage) → IsHead 1 setup.servers server setup.threshold → IsDamagedAtRestart server setup file offset damage → StandsForNone server setup file
+at_restart_stands_not server setup file offset damage head (inl bad) = λ bodies store holds stands. not_damaged server setup file store offset damage head (inr (bodies, holds, stands)) bad
+at_restart_stands_not server setup file offset damage head (inr new) = new_stands_not server setup file new.0
+
+-- a log that has no body
+pub headless : (told : Option (List ℕ)) (server : ℕ) (setup : Setup) (log : LogState) (images : Image → Type 0) → log.length ≤ 1 → OnTold told (logs.IsKept log images) → OnTold told (IsBadAtRestart server setup 0 damages.Spelling)
 headless None server setup log images few kept = tt
-headless (Some bytes) server setup log images few kept = empty_stands_not server setup bytes kept.bodies kept.is.holds (no_body kept.bodies (omega (arith, kept.is.ends)))
+headless (Some bytes) server setup log images few kept = inr (inr (subst (λ bs. HoldsLog bs bytes) (no_body kept.bodies (omega (arith, kept.is.ends))) kept.is.holds), refl, refl)
 
-pub cut_short : (told : Option (List ℕ)) (server : ℕ) (setup : Setup) (place : ℕ) → OnTold told (λ bytes. IsCutShort bytes place) → OnTold told (StandsForNone server setup)
-cut_short None server setup place short = tt
-cut_short (Some bytes) server setup place short = λ bodies store holds stands. no_log bodies bytes place holds short
+-- one that is cut short
+first_cut : (bytes : List ℕ) (offset : ℕ) → IsCutShort bytes offset → length bytes < 2 → offset ≡ 0
+first_cut bytes offset short few = by short.bodies short.split short.place_is
+  where
+    by : (bodies : List (List ℕ)) → bytes ≡ log_bytes bodies ++ short.rest → offset ≡ length (log_bytes bodies) → offset ≡ 0
+    by [] split is = is
+    by (body ∷ bodies) split is = absurd (let all = ap length split in let size = length-append (log_bytes (body ∷ bodies)) short.rest in let long = gate_place_is (body ∷ bodies) in omega (arith, few, all, size, long))
 
-pub bad_stands_not : (server : ℕ) (setup : Setup) (place : ℕ) (damage : Damage) (bytes : List ℕ) → IsHead 1 setup.servers server setup.threshold → IsDamaged server setup bytes place damage → StandsForNone server setup bytes
-bad_stands_not server setup place damage bytes head bad bodies store holds stands = not_damaged server setup bytes store place damage head (inr (bodies, holds, stands)) bad
+pub cut_short : (told : Option (List ℕ)) (server : ℕ) (setup : Setup) (offset : ℕ) → OnTold told (λ bytes. IsCutShort bytes offset) → OnTold told (IsBadAtRestart server setup offset damages.Spelling)
+cut_short None server setup offset short = tt
+cut_short (Some bytes) server setup offset short = by (leb 2 (length bytes)) refl
+  where
+    by : (long : Bool) → leb 2 (length bytes) ≡ long → IsDamagedAtRestart server setup bytes offset damages.Spelling
+    by true is = inl (leb-true 2 (length bytes) is, inl short)
+    by false is = let few = leb-false 2 (length bytes) is in inr (inl few, first_cut bytes offset short few, refl)
 
-pub log_refused : (told told' : Option (List ℕ)) → told' ≡ told → (server : ℕ) (setup : Setup) (fault : LogFault) → IsOpenAnswer {T = LogState} told (Err fault) → IsRefusal (λ _ _. StandsForNone server setup) told' (store_fault_of fault)
+pub log_refused : (told told' : Option (List ℕ)) → told' ≡ told → (server : ℕ) (setup : Setup) (fault : LogFault) → IsOpenAnswer {T = LogState} told (Err fault) → IsRefusal (IsBadAtRestart server setup) told' (store_fault_of fault)
 log_refused told told' same server setup log_faults.Device answer = tt
 log_refused told told' same server setup log_faults.Stopped answer = answer
-log_refused told told' same server setup (log_faults.BadLog place) answer = (refl, subst (λ (t : Option (List ℕ)). OnTold t (StandsForNone server setup)) (sym same) (cut_short told server setup place answer))
+log_refused told told' same server setup (log_faults.BadLog place) answer = (refl, subst (λ (t : Option (List ℕ)). OnTold t (IsBadAtRestart server setup place damages.Spelling)) (sym same) (cut_short told server setup place answer))
 log_refused told told' same server setup log_faults.OutOfMemory answer = tt
 
-pub read_refused : (told told' : Option (List ℕ)) → told' ≡ told → (server : ℕ) (setup : Setup) (fault : StoreFault) → IsHead 1 setup.servers server setup.threshold → IsRefusal (IsBad server setup) told fault → IsRefusal (λ _ _. StandsForNone server setup) told' fault
-read_refused told told' same server setup fault head is =
-    subst (λ (t : Option (List ℕ)). IsRefusal (λ _ _. StandsForNone server setup) t fault) (sym same) (refused_more (IsBad server setup) (λ _ _. StandsForNone server setup) told fault (λ place damage bytes bad. bad_stands_not server setup place damage bytes head bad) is)
+pub read_refused : (told told' : Option (List ℕ)) → told' ≡ told → (server : ℕ) (setup : Setup) (fault : StoreFault) → IsRefusal (IsBad server setup) told fault → IsRefusal (IsBadAtRestart server setup) told' fault
+read_refused told told' same server setup fault is =
+    subst (λ (t : Option (List ℕ)). IsRefusal (IsBadAtRestart server setup) t fault) (sym same) (refused_more (IsBad server setup) (IsBadAtRestart server setup) told fault (λ place damage bytes bad. inl bad) is)
+
+-- ---- a disk that owes a store is not damaged
+
+module _ (server : ℕ) (setup : Setup) (log : LogState) (store : NodeAndRows) (doubt : List Record) where
+  doubt_stands : (bodies : List (List ℕ)) (file : List ℕ) → StandFor server setup bodies store → all_follow store doubt ≡ true → HasDoubt bodies doubt file → StandsForNone server setup file → ⊥
+  doubt_stands bodies file s follow (inl old) none = none bodies store old s
+  doubt_stands bodies file s follow (inr more) none = none (bodies ++ more.0 ∷ []) (replayed_all store doubt) more.2 (stand_more server setup bodies store more.0 doubt s more.1 follow)
+
+  pub not_bad : (told told' : Option (List ℕ)) (images : Image → Type 0) (fault : StoreFault) → StaysTold told told' → OnTold told' (λ bytes. (image : Image) × images image × (image 1 ≡ bytes)) → OnTold told (λ _. LeavesDoubt images server setup log store doubt)
+      → IsHead 1 setup.servers server setup.threshold → IsRefusal (IsBadAtRestart server setup) told' fault → IsRefusal (λ _ _ _. ⊥) told' fault
+  not_bad told told' images faults.Device stays left owed head is = is
+  not_bad told told' images faults.Stopped stays left owed head is = is
+  not_bad None None images (faults.Damaged file place damage) stays left owed head is = is
+  not_bad None (Some bytes) images (faults.Damaged file place damage) stays left owed head is = absurd stays
+  not_bad (Some before) None images (faults.Damaged file place damage) stays left owed head is = is
+  not_bad (Some before) (Some bytes) images (faults.Damaged file place damage) stays left owed head is =
+      absurd (doubt_stands owed.bodies bytes owed.stands owed.follow (subst (HasDoubt owed.bodies doubt) left.2 (owed.each left.0 left.1)) (at_restart_stands_not server setup bytes place damage head is.1))
+  not_bad told told' images faults.Room stays left owed head is = is
+  not_bad told told' images faults.OutOfMemory stays left owed head is = is

@@ -24,7 +24,7 @@ use Rattle.records.specs.Spelling.{IsRecord, IsDirectory, IsChange, MaySay, IsNu
 use Rattle.sessions.specs.declared.kept.Judged.{Judged}
 use Rattle.sessions.specs.declared.kept.Judged.TheVariants.{New, Again, Old}
 use Rattle.sessions.specs.Kept.{judge_kept}
-use Rattle.node_core.specs.Nodes.{NodeV, StoreV, has_numbers, end_of_numbers, owns, session_in, row_in}
+use Rattle.node_core.specs.Nodes.{NodeV, NodeAndRows, has_numbers, end_of_numbers, owns, session_in, row_in}
 use Rattle.node_core.specs.Rules.{Asked, ChangeOf, LookOf, NotServed, asked_of, said_of, said_in, Outcome, Silent, Looks, Repeats, Carries, by_judged, outcome, outcome_of, request_in}
 use Rattle.node_core.specs.Serving.{serve, serve_request, served_as, part_at, may_carry, is_new_change, replayed_all}
 use Rattle.node_core.proofs.Calls.{each_change}
@@ -108,12 +108,12 @@ number_fits : (node : NodeV) → has_numbers node ≡ true → node.server < SER
 number_fits node numbers few = let enough = leb-true (node.next + SERVE_DIRECTORIES) (end_of_numbers node.server) numbers in omega arith
 
 -- the records of a Serve
-pub record AreServed (store : StoreV) (items : List Record) : Type 0 where
+pub record AreServed (store : NodeAndRows) (items : List Record) : Type 0 where
   pub each : AllByRecursion IsRecord items
   pub follow : all_follow store items ≡ true
   pub few : length items ≤ 1
 
-no_records : (store : StoreV) → AreServed store []
+no_records : (store : NodeAndRows) → AreServed store []
 no_records store = record { each = tt; follow = refl; few = omega arith }
 
 judged_new : (j : Judged) (own said : Final) → by_judged j own ≡ Carries said → (is_new_change j ≡ true) × (said ≡ own)
@@ -125,7 +125,7 @@ owned_new : (b : Bool) (j : Judged) (own said : Final) → cond b (by_judged j o
 owned_new true j own said e = (refl, judged_new j own said e)
 owned_new false j own said e = cc
 
-module _ (store : StoreV) (ask : Ask) (now : ℕ) (said : Final) (asked : IsAsked ask) (numbers : has_numbers store.node ≡ true) (few : store.node.server < SERVERS_MOST) (from_two : 2 ≤ store.node.next) where
+module _ (store : NodeAndRows) (ask : Ask) (now : ℕ) (said : Final) (asked : IsAsked ask) (numbers : has_numbers store.node ≡ true) (few : store.node.server < SERVERS_MOST) (from_two : 2 ≤ store.node.next) where
   carried_record : (dir : ℕ) (name : List ℕ) → asked_of ask.call ≡ ChangeOf dir name → outcome_of store ask now (ChangeOf dir name) ≡ Carries said → AreServed store (Served ask.client ask.seq (part_at store (asked_of ask.call)) ask.call said ∷ [])
   carried_record dir name is carries =
       let o = owned_new (owns store.node dir 0) (judge_kept (session_in store.node dir 0 ask.client) ask.seq) (said_in store ask.call dir name) said carries in
@@ -159,39 +159,39 @@ module _ (store : StoreV) (ask : Ask) (now : ℕ) (said : Final) (asked : IsAske
   carried_records (LookOf dir name) is carries = absurd (no_look (owns store.node dir 0) _ said carries)
   carried_records NotServed is carries = cc
 
-served_records : (store : StoreV) (ask : Ask) (now : ℕ) (o : Outcome) → outcome store ask now ≡ o → IsAsked ask → has_numbers store.node ≡ true → store.node.server < SERVERS_MOST → 2 ≤ store.node.next → AreServed store (served_as store ask o).records
+served_records : (store : NodeAndRows) (ask : Ask) (now : ℕ) (o : Outcome) → outcome store ask now ≡ o → IsAsked ask → has_numbers store.node ≡ true → store.node.server < SERVERS_MOST → 2 ≤ store.node.next → AreServed store (served_as store ask o).records
 served_records store ask now Silent is asked numbers few from_two = no_records store
 served_records store ask now (Looks reply) is asked numbers few from_two = no_records store
 served_records store ask now (Repeats said) is asked numbers few from_two = no_records store
 served_records store ask now (Carries said) is asked numbers few from_two = carried_records store ask now said asked numbers few from_two (asked_of ask.call) refl is
 
-request_records : (store : StoreV) (request : Option Ask) (now : ℕ) → IsRequest request → has_numbers store.node ≡ true → store.node.server < SERVERS_MOST → 2 ≤ store.node.next → AreServed store (serve_request store request now).records
+request_records : (store : NodeAndRows) (request : Option Ask) (now : ℕ) → IsRequest request → has_numbers store.node ≡ true → store.node.server < SERVERS_MOST → 2 ≤ store.node.next → AreServed store (serve_request store request now).records
 request_records store None now made numbers few from_two = no_records store
 request_records store (Some ask) now made numbers few from_two = served_records store ask now (outcome store ask now) refl made numbers few from_two
 
 -- the records of a Serve have spellings, and may follow
-pub serve_records : (store : StoreV) (msg : Msg) (now : ℕ) → IsMessage msg → has_numbers store.node ≡ true → store.node.server < SERVERS_MOST → 2 ≤ store.node.next → AreServed store (serve store msg now).records
+pub serve_records : (store : NodeAndRows) (msg : Msg) (now : ℕ) → IsMessage msg → has_numbers store.node ≡ true → store.node.server < SERVERS_MOST → 2 ≤ store.node.next → AreServed store (serve store msg now).records
 serve_records store msg now made numbers few from_two = request_records store (request_in msg) now made numbers few from_two
 
 -- ---- the node stays its server's
 
-pub serve_stays : (server : ℕ) (setup : Setup) (store : StoreV) (msg : Msg) (now : ℕ) → has_numbers store.node ≡ true → IsNodeOf server setup store.node → IsNodeOf server setup (serve store msg now).store.node
-serve_stays server setup store msg now numbers is = subst (λ (s : StoreV). IsNodeOf server setup s.node) (replay_law store msg now numbers) (still_all server setup store (serve store msg now).records is)
+pub serve_stays : (server : ℕ) (setup : Setup) (store : NodeAndRows) (msg : Msg) (now : ℕ) → has_numbers store.node ≡ true → IsNodeOf server setup store.node → IsNodeOf server setup (serve store msg now).store.node
+serve_stays server setup store msg now numbers is = subst (λ (s : NodeAndRows). IsNodeOf server setup s.node) (replay_law store msg now numbers) (still_all server setup store (serve store msg now).records is)
 
 -- ---- a body of a Serve's records
 
 -- the records of the body are those of the Serve, and lead to the store that it makes
-pub record IsServedBody (store : StoreV) (msg : Msg) (now : ℕ) (body : List ℕ) : Type 0 where
+pub record IsServedBody (store : NodeAndRows) (msg : Msg) (now : ℕ) (body : List ℕ) : Type 0 where
   pub is : IsBody body (serve store msg now).records
   pub follow : all_follow store (serve store msg now).records ≡ true
   pub leads : replayed_all store (serve store msg now).records ≡ (serve store msg now).store
 
-pub served_body : (store : StoreV) (msg : Msg) (now : ℕ) (body : List ℕ) (items : List Record) → IsMessage msg → has_numbers store.node ≡ true → store.node.server < SERVERS_MOST → 2 ≤ store.node.next → items ≡ (serve store msg now).records → IsBody body items → IsServedBody store msg now body
+pub served_body : (store : NodeAndRows) (msg : Msg) (now : ℕ) (body : List ℕ) (items : List Record) → IsMessage msg → has_numbers store.node ≡ true → store.node.server < SERVERS_MOST → 2 ≤ store.node.next → items ≡ (serve store msg now).records → IsBody body items → IsServedBody store msg now body
 served_body store msg now body items made numbers few from_two same is = record {
   is = subst (λ (i : List Record). IsBody body i) same is;
   follow = (serve_records store msg now made numbers few from_two).follow;
   leads = replay_law store msg now numbers;
 }
 
-pub same_store : (store : StoreV) (node : NodeV) (rows : RowMap) → node ≡ store.node → rows ≡ store.rows → record { node = node; rows = rows } ≡ store
+pub same_store : (store : NodeAndRows) (node : NodeV) (rows : RowMap) → node ≡ store.node → rows ≡ store.rows → record { node = node; rows = rows } ≡ store
 same_store store node rows n r = ap (λ (x : NodeV). record { node = x; rows = rows }) n ∙ ap (λ (x : RowMap). record { node = store.node; rows = x }) r

@@ -9,18 +9,18 @@ use Rattle.gate_log.specs.LogState.{LogState, IsLogOf, IsReady, HasBodies}
 use Rattle.mds_out.specs.Disk.{Image, Contents, Lengths, LeavesOnly, StaysTold}
 use Rattle.mds_out.specs.Known.{OnTold}
 use Rattle.mds_out.proofs.Moments.{leaves_weaker}
-use Rattle.node_core.specs.Nodes.{StoreV}
+use Rattle.node_core.specs.Nodes.{NodeAndRows}
 use Rattle.node_core.specs.Serving.{may_follow, replayed, replayed_all}
 use Rattle.node_store.specs.Stands.{new_store, all_follow, IsBody, AreBodies, all_of, StandFor, FileStandsFor}
 use Rattle.node_store.specs.Store.{HoldsStore, IsKept, HasDoubt, LeavesDoubt, StandsForEither}
 
 -- ---- records and bodies
 
-pub replayed_more : (store : StoreV) (items more : List Record) → replayed_all store (items ++ more) ≡ replayed_all (replayed_all store items) more
+pub replayed_more : (store : NodeAndRows) (items more : List Record) → replayed_all store (items ++ more) ≡ replayed_all (replayed_all store items) more
 replayed_more store [] more = refl
 replayed_more store (item ∷ items) more = replayed_more (replayed store item) items more
 
-pub follow_more : (store : StoreV) (items more : List Record) → all_follow store items ≡ true → all_follow (replayed_all store items) more ≡ true → all_follow store (items ++ more) ≡ true
+pub follow_more : (store : NodeAndRows) (items more : List Record) → all_follow store items ≡ true → all_follow (replayed_all store items) more ≡ true → all_follow store (items ++ more) ≡ true
 follow_more store [] more first second = second
 follow_more store (item ∷ items) more first second =
     let parts = and_parts (may_follow store item) (all_follow (replayed store item) items) first in
@@ -37,28 +37,28 @@ bodies_more (first ∷ bodies) [] body more are one = absurd are
 bodies_more (first ∷ bodies) (these ∷ items) body more are one = (are.0, bodies_more bodies items body more are.1 one)
 
 -- the bodies with one more, whose records may follow, stand for the store after them
-pub stand_more : (server : ℕ) (setup : Setup) (bodies : List (List ℕ)) (store : StoreV) (body : List ℕ) (more : List Record) → StandFor server setup bodies store → IsBody body more → all_follow store more ≡ true → StandFor server setup (bodies ++ body ∷ []) (replayed_all store more)
+pub stand_more : (server : ℕ) (setup : Setup) (bodies : List (List ℕ)) (store : NodeAndRows) (body : List ℕ) (more : List Record) → StandFor server setup bodies store → IsBody body more → all_follow store more ≡ true → StandFor server setup (bodies ++ body ∷ []) (replayed_all store more)
 stand_more server setup bodies store body more s is follow =
     let first = new_store server setup in
-    let follow' : all_follow (replayed_all first (all_of s.items)) more ≡ true = subst (λ (x : StoreV). all_follow x more ≡ true) s.leads follow in
+    let follow' : all_follow (replayed_all first (all_of s.items)) more ≡ true = subst (λ (x : NodeAndRows). all_follow x more ≡ true) s.leads follow in
     record {
       rest = s.rest ++ body ∷ [];
       items = s.items ++ more ∷ [];
       head = ap (λ (b : List (List ℕ)). b ++ body ∷ []) s.head;
       are = bodies_more s.rest s.items body more s.are is;
       follow = rw (all_more s.items more) (follow_more first (all_of s.items) more s.follow follow');
-      leads = ap (λ (x : StoreV). replayed_all x more) s.leads ∙ sym (replayed_more first (all_of s.items) more) ∙ ap (replayed_all first) (sym (all_more s.items more));
+      leads = ap (λ (x : NodeAndRows). replayed_all x more) s.leads ∙ sym (replayed_more first (all_of s.items) more) ∙ ap (replayed_all first) (sym (all_more s.items more));
     }
 
 -- the log with the body or without it stands for the new store or the old one
-pub either_store : (server : ℕ) (setup : Setup) (bodies : List (List ℕ)) (store : StoreV) (body : List ℕ) (items : List Record) (file : List ℕ) → StandFor server setup bodies store → IsBody body items → all_follow store items ≡ true → IsBeforeOrAfter bodies body file
+pub either_store : (server : ℕ) (setup : Setup) (bodies : List (List ℕ)) (store : NodeAndRows) (body : List ℕ) (items : List Record) (file : List ℕ) → StandFor server setup bodies store → IsBody body items → all_follow store items ≡ true → IsBeforeOrAfter bodies body file
     → FileStandsFor server setup file store ⊎ FileStandsFor server setup file (replayed_all store items)
 either_store server setup bodies store body items file s is follow (inl before) = inl (inr (bodies, before, s))
 either_store server setup bodies store body items file s is follow (inr after) = inr (inr (bodies ++ body ∷ [], after, stand_more server setup bodies store body items s is follow))
 
 -- ---- an append
 
-module _ (server : ℕ) (setup : Setup) (store : StoreV) (body : List ℕ) (items : List Record) (is : IsBody body items) (follow : all_follow store items ≡ true) where
+module _ (server : ℕ) (setup : Setup) (store : NodeAndRows) (body : List ℕ) (items : List Record) (is : IsBody body items) (follow : all_follow store items ≡ true) where
   -- what an append leaves, where the disk tells it
   holds_more : (seen seen' : Option (List ℕ)) (log log' : LogState) → StaysTold seen seen' → ((bodies : List (List ℕ)) → OnTold seen (IsLogOf log bodies) → OnTold seen' (IsLogOf log' (bodies ++ body ∷ []))) → OnTold seen (HoldsStore server setup log store)
       → OnTold seen' (HoldsStore server setup log' (replayed_all store items))

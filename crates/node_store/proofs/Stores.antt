@@ -9,33 +9,33 @@ use Rattle.mds_out.specs.Disk.{Image, Contents, Lengths, LeavesOnly}
 use Rattle.mds_out.specs.Known.{OnTold}
 use Rattle.mds_out.proofs.Moments.{started, both}
 use Rattle.gate_log.proofs.Scans.{unchanged_twice, same_twice}
-use Rattle.node_core.specs.Nodes.{StoreV}
+use Rattle.node_core.specs.Nodes.{NodeAndRows}
 use Rattle.node_store.specs.Disks.{IsStoreReading}
 use Rattle.node_store.specs.Stands.{FileStandsFor, opened_store}
 use Rattle.node_store.specs.Store.{Store, HoldsStore, IsKept, LeavesDoubt, IsDownAt, KeepsStore, StandsForEither}
 
 -- ---- what the disk keeps
 
-keeps_told : (told : Option (List ℕ)) (images : Image → Type 0) (server : ℕ) (setup : Setup) (log : LogState) (store : StoreV) → log.file ≡ 1 → OnTold told (logs.IsKept log images) → OnTold told (HoldsStore server setup log store) → OnTold told (λ _. KeepsStore images server setup store)
+keeps_told : (told : Option (List ℕ)) (images : Image → Type 0) (server : ℕ) (setup : Setup) (log : LogState) (store : NodeAndRows) → log.file ≡ 1 → OnTold told (logs.IsKept log images) → OnTold told (HoldsStore server setup log store) → OnTold told (λ _. KeepsStore images server setup store)
 keeps_told None images server setup log store file kept holds = tt
 keeps_told (Some bytes) images server setup log store file kept holds = λ image is.
     let same : image 1 ≡ bytes = ap image (sym file) ∙ kept.durable image is in
     inr (holds.bodies, subst (λ (b : List ℕ). HoldsLog holds.bodies b) (sym same) holds.is.holds, holds.stands)
 
 -- each image of the disk of a server that is up stands for its store
-pub keeps_store : (seen : Contents) (sizes : Lengths) (images : Image → Type 0) (server : ℕ) (setup : Setup) (log : LogState) (store : StoreV) → IsKept seen sizes images server setup log store → OnTold (seen 1) (λ _. KeepsStore images server setup store)
+pub keeps_store : (seen : Contents) (sizes : Lengths) (images : Image → Type 0) (server : ℕ) (setup : Setup) (log : LogState) (store : NodeAndRows) → IsKept seen sizes images server setup log store → OnTold (seen 1) (λ _. KeepsStore images server setup store)
 keeps_store seen sizes images server setup log store k = keeps_told (seen 1) images server setup log store k.file (subst (λ (f : ℕ). OnTold (seen f) (logs.IsKept log images)) k.file k.ready.told) k.holds
 
-still_told : {D : Type 0} (moment : D → ℕ) (since : D → ℕ → Image → Type 0) (images : Image → Type 0) (a : D) (told : Option (List ℕ)) (server : ℕ) (setup : Setup) (store next : StoreV) → ((image : Image) → since a (moment a) image → images image) → OnTold told (λ _. KeepsStore images server setup store) → OnTold told (λ _. LeavesOnly moment since a a (StandsForEither server setup store next))
+still_told : {D : Type 0} (moment : D → ℕ) (since : D → ℕ → Image → Type 0) (images : Image → Type 0) (a : D) (told : Option (List ℕ)) (server : ℕ) (setup : Setup) (store next : NodeAndRows) → ((image : Image) → since a (moment a) image → images image) → OnTold told (λ _. KeepsStore images server setup store) → OnTold told (λ _. LeavesOnly moment since a a (StandsForEither server setup store next))
 still_told moment since images a None server setup store next now keeps = tt
 still_told moment since images a (Some bytes) server setup store next now keeps = started moment since a (StandsForEither server setup store next) (λ image left. inl (keeps image (now image left)))
 
 -- where nothing was done to the disk it keeps the store at each moment
-pub nothing_done : {D : Type 0} (moment : D → ℕ) (since : D → ℕ → Image → Type 0) (seen : Contents) (sizes : Lengths) (images : Image → Type 0) (a : D) (server : ℕ) (setup : Setup) (log : LogState) (store next : StoreV) → ((image : Image) → since a (moment a) image → images image) → IsKept seen sizes images server setup log store
+pub nothing_done : {D : Type 0} (moment : D → ℕ) (since : D → ℕ → Image → Type 0) (seen : Contents) (sizes : Lengths) (images : Image → Type 0) (a : D) (server : ℕ) (setup : Setup) (log : LogState) (store next : NodeAndRows) → ((image : Image) → since a (moment a) image → images image) → IsKept seen sizes images server setup log store
     → OnTold (seen 1) (λ _. LeavesOnly moment since a a (StandsForEither server setup store next))
 nothing_done moment since seen sizes images a server setup log store next now k = still_told moment since images a (seen 1) server setup store next now (keeps_store seen sizes images server setup log store k)
 
-down_told : (told : Option (List ℕ)) (images : Image → Type 0) (server : ℕ) (setup : Setup) (log : LogState) (store : StoreV) → log.file ≡ 1 → OnTold told (logs.IsKept log images) → OnTold told (HoldsStore server setup log store) → OnTold told (λ _. LeavesDoubt images server setup log store [])
+down_told : (told : Option (List ℕ)) (images : Image → Type 0) (server : ℕ) (setup : Setup) (log : LogState) (store : NodeAndRows) → log.file ≡ 1 → OnTold told (logs.IsKept log images) → OnTold told (HoldsStore server setup log store) → OnTold told (λ _. LeavesDoubt images server setup log store [])
 down_told None images server setup log store file kept holds = tt
 down_told (Some bytes) images server setup log store file kept holds = record {
   bodies = holds.bodies;
@@ -46,7 +46,7 @@ down_told (Some bytes) images server setup log store file kept holds = record {
 }
 
 -- the disk of a server that was up owes it its store once it is down
-pub down_at : {D : Type 0} (seen : D → Contents) (sizes : D → Lengths) (images : D → Image → Type 0) (disk : D) (server : ℕ) (setup : Setup) (log : LogState) (store : StoreV) (doubt : List Record) → IsKept (seen disk) (sizes disk) (images disk) server setup log store → doubt ≡ []
+pub down_at : {D : Type 0} (seen : D → Contents) (sizes : D → Lengths) (images : D → Image → Type 0) (disk : D) (server : ℕ) (setup : Setup) (log : LogState) (store : NodeAndRows) (doubt : List Record) → IsKept (seen disk) (sizes disk) (images disk) server setup log store → doubt ≡ []
     → IsDownAt seen images (record { disk = disk; server = server; setup = setup; log = log; up = None; doubt = doubt }) store
 down_at seen sizes images disk server setup log store doubt k sure = record {
   down = refl;
@@ -56,37 +56,37 @@ down_at seen sizes images disk server setup log store doubt k sure = record {
 
 -- ---- the parts and the store that they show
 
-abbrev some_store : StoreV → Option StoreV
+abbrev some_store : NodeAndRows → Option NodeAndRows
 some_store store = Some store
 
 -- a server that is up with a store
-pub was_up : (down : Bool) (inside store : StoreV) → cond down None (Some inside) ≡ Some store → (down ≡ false) × (inside ≡ store)
+pub was_up : (down : Bool) (inside store : NodeAndRows) → cond down None (Some inside) ≡ Some store → (down ≡ false) × (inside ≡ store)
 was_up true inside store e = absurd (let h : None ≡ some_store store = e in cc)
 was_up false inside store e = let h : some_store inside ≡ Some store = e in (refl, cc)
 
 -- a server that is not down is up with some store
-pub is_up : (down : Bool) (up : Option StoreV) → down ≡ false → (up ≡ None → IsTrue down) → (store : StoreV) × (up ≡ Some store)
+pub is_up : (down : Bool) (up : Option NodeAndRows) → down ≡ false → (up ≡ None → IsTrue down) → (store : NodeAndRows) × (up ≡ Some store)
 is_up true up e tells = cc
 is_up false None e tells = let never : false ≡ true = tells refl in cc
 is_up false (Some store) e tells = (store, refl)
 
 -- the store that a server's parts show
-abbrev pub shown : {D : Type 0} → D → ℕ → Setup → LogState → StoreV → Bool → List Record → Store D
+abbrev pub shown : {D : Type 0} → D → ℕ → Setup → LogState → NodeAndRows → Bool → List Record → Store D
 shown disk server setup log inside down doubt = record { disk = disk; server = server; setup = setup; log = log; up = cond down None (Some inside); doubt = doubt }
 
 -- what holds of the parts where the server is up holds of the store that they show
-pub at_up : {D : Type 0} (P : Store D → StoreV → Type 0) (disk : D) (server : ℕ) (setup : Setup) (log : LogState) (inside : StoreV) (down : Bool) (doubt : List Record) (view : Store D) → shown disk server setup log inside down doubt ≡ view
-    → (down ≡ false → P view inside) → (store : StoreV) → view.up ≡ Some store → P view store
+pub at_up : {D : Type 0} (P : Store D → NodeAndRows → Type 0) (disk : D) (server : ℕ) (setup : Setup) (log : LogState) (inside : NodeAndRows) (down : Bool) (doubt : List Record) (view : Store D) → shown disk server setup log inside down doubt ≡ view
+    → (down ≡ false → P view inside) → (store : NodeAndRows) → view.up ≡ Some store → P view store
 at_up P disk server setup log inside down doubt view is holds store up =
     let was = was_up down inside store (ap (λ (v : Store _). v.up) is ∙ up) in
-    subst (λ (s : StoreV). P view s) was.1 (holds was.0)
+    subst (λ (s : NodeAndRows). P view s) was.1 (holds was.0)
 
 -- ---- an opened store
 
-pub opened_told : (told : Option (List ℕ)) (server : ℕ) (setup : Setup) (new : StoreV) → OnTold told (λ bytes. (store : StoreV) × FileStandsFor server setup bytes store × (new ≡ opened_store store))
-    → OnTold told (λ bytes. (store : StoreV) × FileStandsFor server setup bytes store × (Some new ≡ Some (opened_store store)))
+pub opened_told : (told : Option (List ℕ)) (server : ℕ) (setup : Setup) (new : NodeAndRows) → OnTold told (λ bytes. (store : NodeAndRows) × FileStandsFor server setup bytes store × (new ≡ opened_store store))
+    → OnTold told (λ bytes. (store : NodeAndRows) × FileStandsFor server setup bytes store × (Some new ≡ Some (opened_store store)))
 opened_told None server setup new opened = tt
-opened_told (Some bytes) server setup new opened = (opened.0, opened.1, ap (λ (s : StoreV). Some s) opened.2)
+opened_told (Some bytes) server setup new opened = (opened.0, opened.1, ap (λ (s : NodeAndRows). Some s) opened.2)
 
 -- calls that change nothing, and one more
 pub reads_on : {D T U : Type 0} {seen : D → Contents} {sizes : D → Lengths} {images : D → Image → Type 0} {moment : D → ℕ} {since : D → ℕ → Image → Type 0} {faults changes : D → ℕ} {lasts fails : D → D → Type 0}

@@ -9,21 +9,22 @@ use Rattle.records.specs.declared.record.Record.{Record}
 use Rattle.records.specs.declared.record.Record.TheVariants as records
 use Rattle.records.specs.Spelling.{IsRecord, IsHead, record_spelling}
 use Rattle.gate_log.specs.Log.{HoldsLog, IsCutShort, log_bytes}
-use Rattle.node_core.specs.Nodes.{StoreV}
+use Rattle.node_core.specs.Nodes.{NodeAndRows}
 use Rattle.node_core.specs.Serving.{may_follow, replayed_all}
-use Rattle.node_store.specs.Stands.{new_store, all_follow, AreBodies, all_of, head_of}
+use Rattle.node_store.specs.Stands.{IsNewFile, new_store, all_follow, AreBodies, all_of, head_of}
 
 -- the place of the first byte of a body behind these bodies
 abbrev pub body_place : List (List ℕ) → ℕ
 body_place before = length (log_bytes before) + 5
 
 -- no record begins the bytes that may follow at the store
-abbrev pub NoneFollows : StoreV → List ℕ → Type 0
-NoneFollows store bytes = (item : Record) (more : List ℕ) → IsRecord item → bytes ≡ record_spelling item ++ more → may_follow store item ≡ true → ⊥
+abbrev pub NoneFollows : NodeAndRows → List ℕ → Type 0
+NoneFollows store bytes = (item : Record) (more : List ℕ) → IsRecord item → bytes ≡ record_spelling item ++ more
+    → may_follow store item ≡ true → ⊥
 
 -- A record that may not stand at its place: the bodies before this one and the records before it in its body lead to a
 -- store, and what comes then begins with no record that may follow there; or the body is empty.
-pub record IsWrongAt (server : ℕ) (setup : Setup) (bytes : List ℕ) (place : ℕ) : Type 0 where
+pub record IsWrongAt (server : ℕ) (setup : Setup) (bytes : List ℕ) (offset : ℕ) : Type 0 where
   pub before : List (List ℕ)
   pub body : List ℕ
   pub after : List (List ℕ)
@@ -37,7 +38,8 @@ pub record IsWrongAt (server : ℕ) (setup : Setup) (bytes : List ℕ) (place : 
   pub follow : all_follow (new_store server setup) (all_of items ++ front) ≡ true
   pub none : NoneFollows (replayed_all (new_store server setup) (all_of items ++ front)) rest
   pub empty : rest ≡ [] → front ≡ []
-  pub place_is : place ≡ body_place (record_spelling (head_of server setup) ∷ before) + length (flat_map record_spelling front)
+  pub place_is : offset
+      ≡ body_place (record_spelling (head_of server setup) ∷ before) + length (flat_map record_spelling front)
 
 -- the log's first body
 pub record HasFirst (body : List ℕ) (bytes : List ℕ) : Type 0 where
@@ -51,23 +53,30 @@ abbrev pub wanted_head : ℕ → Setup → Head
 wanted_head server setup = record { servers = setup.servers; server = server; threshold = setup.threshold }
 
 -- the log's first body is the head of another server, or of other servers
-pub record IsForeign (server : ℕ) (setup : Setup) (bytes : List ℕ) (place : ℕ) (kept wanted : Head) : Type 0 where
+pub record IsForeign (server : ℕ) (setup : Setup) (bytes : List ℕ) (offset : ℕ) (kept wanted : Head) : Type 0 where
   pub first : HasFirst (head_spelling kept) bytes
   pub is : IsHead 1 kept.servers kept.server kept.threshold
   pub wanted_is : wanted ≡ wanted_head server setup
   pub differ : kept ≢ wanted
-  pub place_is : place ≡ 5
+  pub place_is : offset ≡ 5
 
 -- the log's first body is no head
-pub record IsHeadless (bytes : List ℕ) (place : ℕ) : Type 0 where
+pub record IsHeadless (bytes : List ℕ) (offset : ℕ) : Type 0 where
   pub body : List ℕ
   pub first : HasFirst body bytes
   pub none : (head : Head) → IsHead 1 head.servers head.server head.threshold → body ≢ head_spelling head
-  pub place_is : place ≡ 5
+  pub place_is : offset ≡ 5
 
 -- What is wrong at a place of the file: its log is cut short, its first body is no head or that of others, or a record
 -- may not stand there.
 abbrev pub IsDamaged : ℕ → Setup → List ℕ → ℕ → Damage → Type 0
-IsDamaged server setup bytes place damages.Spelling = (2 ≤ length bytes) × (IsCutShort bytes place ⊎ (IsHeadless bytes place ⊎ IsWrongAt server setup bytes place))
-IsDamaged server setup bytes place (damages.Sum kept found) = ⊥
-IsDamaged server setup bytes place (damages.Head kept wanted) = IsForeign server setup bytes place kept wanted
+IsDamaged server setup bytes offset damages.Spelling =
+    (2 ≤ length bytes) × (IsCutShort bytes offset ⊎ (IsHeadless bytes offset ⊎ IsWrongAt server setup bytes offset))
+IsDamaged server setup bytes offset (damages.Sum kept found) = ⊥
+IsDamaged server setup bytes offset (damages.Head kept wanted) = IsForeign server setup bytes offset kept wanted
+
+-- What is wrong with the file of a server that was up: that, or, at its first byte, that the file is new.
+abbrev pub IsDamagedAtRestart : ℕ → Setup → List ℕ → ℕ → Damage → Type 0
+IsDamagedAtRestart server setup bytes offset damage =
+    IsDamaged server setup bytes offset damage
+    ⊎ (IsNewFile bytes × (offset ≡ 0) × (damage ≡ damages.Spelling))

@@ -12,10 +12,12 @@ pub record HasStoreCause {T : Type 0} (before now : ℕ) (result : Result T Stor
   pub other : IfErr result (λ fault. fault ≢ Device → now ≡ before)
   pub kept : OnOk result (now ≡ before)
 
--- A call that changes nothing: what a read gives, the images and the count of writes and cuts are as before, and a crash
--- at any moment of it leaves an image from before.
-pub record IsStoreReading {D T : Type 0} (seen : D → Contents) (sizes : D → Lengths) (images : D → Image → Type 0) (moment : D → ℕ) (since : D → ℕ → Image → Type 0)
-    (faults changes_asked : D → ℕ) (leads fails_by : D → D → Type 0) (old new : D) (result : Result T StoreFault) : Type 0 where
+-- A call that changes nothing: what a read gives, the images and the count of writes and cuts are as before, and a
+-- crash at any moment of it leaves an image from before.
+pub record IsStoreReading {D T : Type 0} (seen : D → Contents) (sizes : D → Lengths) (images : D → Image → Type 0)
+    (moment : D → ℕ) (since : D → ℕ → Image → Type 0)
+    (faults changes_asked : D → ℕ) (leads fails_by : D → D → Type 0) (old new : D)
+    (result : Result T StoreFault) : Type 0 where
   pub unchanged : IsUnchanged (seen old) (seen new) (sizes old) (sizes new)
   pub crash : AreSame (images old) (images new)
   pub any_moment : LeavesOnly moment since old new (images old)
@@ -25,7 +27,8 @@ pub record IsStoreReading {D T : Type 0} (seen : D → Contents) (sizes : D → 
   pub changes : changes_asked new ≡ changes_asked old
 
 -- A call that may change something.
-pub record IsStoreChanging {D T : Type 0} (faults : D → ℕ) (leads fails_by : D → D → Type 0) (old new : D) (result : Result T StoreFault) : Type 0 where
+pub record IsStoreChanging {D T : Type 0} (faults : D → ℕ) (leads fails_by : D → D → Type 0) (old new : D)
+    (result : Result T StoreFault) : Type 0 where
   pub cause : HasStoreCause (faults old) (faults new) result
   pub lasts : leads old new
   pub failed : IsErrOf result Device → fails_by old new

@@ -4,19 +4,21 @@ use Rattle.mds_base.specs.declared.setup.Setup.{Setup}
 use Rattle.mds_base.specs.declared.store_fault.Damage.{Damage}
 use Rattle.gate_log.specs.LogState.{LogState, IsReady}
 use Rattle.mds_out.specs.Disk.{Image, Contents, Lengths}
-use Rattle.node_core.specs.Nodes.{StoreV}
+use Rattle.node_core.specs.Nodes.{NodeAndRows}
 use Rattle.node_store.specs.Stands.{FileStandsFor}
 use Rattle.node_store.specs.Damage.{IsDamaged}
 
 -- the file stands for each store for which the bytes stand
 abbrev pub StandsLike : ℕ → Setup → List ℕ → List ℕ → Type 0
-StandsLike server setup bytes file = (store : StoreV) → FileStandsFor server setup bytes store → FileStandsFor server setup file store
+StandsLike server setup bytes file =
+    (store : NodeAndRows) → FileStandsFor server setup bytes store → FileStandsFor server setup file store
 
 -- two files stand for the same stores, and what is damaged in the second is so in the first
 pub record StandAlike (server : ℕ) (setup : Setup) (bytes file : List ℕ) : Type 0 where
   pub on : StandsLike server setup bytes file
   pub back : StandsLike server setup file bytes
-  pub damaged : (place : ℕ) (damage : Damage) → IsDamaged server setup file place damage → IsDamaged server setup bytes place damage
+  pub damaged : (offset : ℕ) (damage : Damage) → IsDamaged server setup file offset damage
+      → IsDamaged server setup bytes offset damage
 
 -- an image is one from before, or stands for what the bytes stand for
 abbrev pub IsAsBefore : ℕ → Setup → (Image → Type 0) → List ℕ → Image → Type 0

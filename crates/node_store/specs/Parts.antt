@@ -6,7 +6,7 @@ use Rattle.records.specs.declared.record.Record.{Record}
 use Rattle.records.specs.Spelling.{IsHead}
 use Rattle.gate_log.specs.LogState.{LogState}
 use Rattle.mds_out.specs.Disk.{Image, Contents, Lengths}
-use Rattle.node_core.specs.Nodes.{NodeV, StoreV}
+use Rattle.node_core.specs.Nodes.{NodeV, NodeAndRows}
 use Rattle.node_store.specs.Stands.{all_follow, IsBody}
 use Rattle.node_store.specs.Store.{IsKept}
 
@@ -22,15 +22,20 @@ pub record IsNodeOf (server : ℕ) (setup : Setup) (node : NodeV) : Type 0 where
   pub from_two : 2 ≤ node.next
 
 -- a server that is up
-pub record IsUp (seen : Contents) (sizes : Lengths) (images : Image → Type 0) (server : ℕ) (setup : Setup) (log : LogState) (store : StoreV) (doubt : List Record) : Type 0 where
+pub record IsUp (seen : Contents) (sizes : Lengths) (images : Image → Type 0) (server : ℕ) (setup : Setup)
+    (log : LogState) (store : NodeAndRows) (doubt : List Record) : Type 0 where
   pub kept : IsKept seen sizes images server setup log store
   pub node : IsNodeOf server setup store.node
   pub sure : doubt ≡ []
 
 -- of each server that is up on the disk
-abbrev pub OfEach : Contents → Lengths → (Image → Type 0) → LogState → StoreV → (ℕ → Setup → Type 0) → Type 0
-OfEach seen sizes images log store P = (server : ℕ) → (setup : Setup) → IsKept seen sizes images server setup log store → P server setup
+abbrev pub OfEach : Contents → Lengths → (Image → Type 0) → LogState → NodeAndRows → (ℕ → Setup → Type 0) → Type 0
+OfEach seen sizes images log store P =
+    (server : ℕ) → (setup : Setup) → IsKept seen sizes images server setup log store → P server setup
 
 -- of each server that is up on the disk, and each records of the body that may follow there
-abbrev pub OfEachBody : Contents → Lengths → (Image → Type 0) → LogState → List ℕ → (ℕ → Setup → StoreV → List Record → Type 0) → Type 0
-OfEachBody seen sizes images log body P = (server : ℕ) → (setup : Setup) → (store : StoreV) → (items : List Record) → IsBody body items → all_follow store items ≡ true → IsKept seen sizes images server setup log store → P server setup store items
+abbrev pub OfEachBody : Contents → Lengths → (Image → Type 0) → LogState → List ℕ
+    → (ℕ → Setup → NodeAndRows → List Record → Type 0) → Type 0
+OfEachBody seen sizes images log body P = (server : ℕ) → (setup : Setup) → (store : NodeAndRows) → (items : List Record)
+    → IsBody body items → all_follow store items ≡ true → IsKept seen sizes images server setup log store
+    → P server setup store items

@@ -13,7 +13,7 @@ use Rattle.node_store.specs.declared.serve.Refusal.TheVariants.{Memory, Disk}
 abbrev pub IsDisks : LogFault → Type 0
 IsDisks Device = Unit {0}
 IsDisks Stopped = ⊥
-IsDisks (BadLog place) = ⊥
+IsDisks (BadLog offset) = ⊥
 IsDisks OutOfMemory = Unit {0}
 
 abbrev pub AreDisks : Refusal → Type 0
@@ -39,6 +39,6 @@ pub record HasRefusalCause {T : Type 0} (before now : ℕ) (result : Result T Re
 abbrev pub IsServeFault : StoreFault → Type 0
 IsServeFault faults.Device = Unit {0}
 IsServeFault faults.Stopped = ⊥
-IsServeFault (faults.Damaged file place damage) = ⊥
+IsServeFault (faults.Damaged file offset damage) = ⊥
 IsServeFault faults.Room = ⊥
 IsServeFault faults.OutOfMemory = Unit {0}

@@ -7,15 +7,15 @@ use Rattle.records.specs.declared.record.Record.{Record}
 use Rattle.records.specs.declared.record.Record.TheVariants.{Head, Opened}
 use Rattle.records.specs.Spelling.{IsRecord, record_spelling}
 use Rattle.gate_log.specs.Log.{HoldsLog}
-use Rattle.node_core.specs.Nodes.{StoreV, new_node}
+use Rattle.node_core.specs.Nodes.{NodeAndRows, new_node}
 use Rattle.node_core.specs.Serving.{may_follow, replayed, replayed_all}
 
 -- a server on which nothing was noted yet, with its rows
-abbrev pub new_store : ℕ → Setup → StoreV
+abbrev pub new_store : ℕ → Setup → NodeAndRows
 new_store server setup = record { node = new_node server setup; rows = map.empty }
 
 -- each record may follow where those before it lead
-abbrev pub all_follow : StoreV → List Record → Bool
+abbrev pub all_follow : NodeAndRows → List Record → Bool
 all_follow store [] = true
 all_follow store (item ∷ items) = may_follow store item && all_follow (replayed store item) items
 
@@ -41,7 +41,7 @@ head_of server setup = Head 1 setup.servers server setup.threshold
 
 -- Bodies stand for a store: the first one is the head of this server, and the records of the others lead from the new
 -- store to it.
-pub record StandFor (server : ℕ) (setup : Setup) (bodies : List (List ℕ)) (store : StoreV) : Type 0 where
+pub record StandFor (server : ℕ) (setup : Setup) (bodies : List (List ℕ)) (store : NodeAndRows) : Type 0 where
   pub rest : List (List ℕ)
   pub items : List (List Record)
   pub head : bodies ≡ record_spelling (head_of server setup) ∷ rest
@@ -54,13 +54,15 @@ abbrev pub IsNewFile : List ℕ → Type 0
 IsNewFile file = (length file < 2) ⊎ HoldsLog [] file
 
 -- The file stands for a store: it is new, and so is the store, or its log's bodies stand for it.
-abbrev pub FileStandsFor : ℕ → Setup → List ℕ → StoreV → Type 0
-FileStandsFor server setup file store = (IsNewFile file × (store ≡ new_store server setup)) ⊎ ((bodies : List (List ℕ)) × HoldsLog bodies file × StandFor server setup bodies store)
+abbrev pub FileStandsFor : ℕ → Setup → List ℕ → NodeAndRows → Type 0
+FileStandsFor server setup file store = (IsNewFile file × (store ≡ new_store server setup))
+    ⊎ ((bodies : List (List ℕ)) × HoldsLog bodies file × StandFor server setup bodies store)
 
 -- the file's log stands for no store
 abbrev pub StandsForNone : ℕ → Setup → List ℕ → Type 0
-StandsForNone server setup file = (bodies : List (List ℕ)) → (store : StoreV) → HoldsLog bodies file → StandFor server setup bodies store → ⊥
+StandsForNone server setup file =
+    (bodies : List (List ℕ)) → (store : NodeAndRows) → HoldsLog bodies file → StandFor server setup bodies store → ⊥
 
 -- a store once its server was opened for a new run
-abbrev pub opened_store : StoreV → StoreV
+abbrev pub opened_store : NodeAndRows → NodeAndRows
 opened_store store = replayed store Opened

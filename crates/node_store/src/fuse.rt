@@ -7,7 +7,16 @@ use mds_out::{Disk, Fuse};
 impl<D: Disk> NodeStore<D> {
     /// Puts a fuse that is not armed round the disk.
     pub fn fused(self) -> NodeStore<Fuse<D>>
-        ensures { result ≡ record { disk = record { inner = self.disk; left = None; refused = 0; refused_changes = 0 }; server = self.server; setup = self.setup; log = self.log; up = self.up; doubt = self.doubt } }
+        ensures { result
+            ≡ record {
+              disk = record { inner = self.disk; left = None; refused = 0; refused_changes = 0 };
+              server =
+                  self.server;
+              setup = self.setup;
+              log = self.log;
+              up = self.up;
+              doubt = self.doubt;
+            } }
     {
         let NodeStore {
             disk,

@@ -3,17 +3,31 @@ ghost use Rattle.std.specs.Prelude.{◌≡◌, ℕ, List};
 ghost use Rattle.mds_base.specs.declared.setup.Setup.{Setup};
 ghost use Rattle.mds_base.specs.declared.store_fault.Damage.{Damage};
 ghost use Rattle.records.specs.Spelling.{IsHead};
-ghost use Rattle.node_core.specs.Nodes.{StoreV};
-ghost use Rattle.node_store.specs.Damage.{IsDamaged};
-ghost use Rattle.node_store.specs.Stands.{FileStandsFor};
+ghost use Rattle.node_core.specs.Nodes.{NodeAndRows};
+ghost use Rattle.node_core.specs.Terms.{SharesHead, store_on};
+ghost use Rattle.node_store.specs.Damage.{IsDamaged, IsDamagedAtRestart};
+ghost use Rattle.node_store.specs.Stands.{FileStandsFor, StandsForNone};
 
-/// The laws of what a file stands for (`docs/DEFINITIONS.md`, "What a disk stands for"), for all servers, setups, files
-/// and stores.
+/// The laws of what a file stands for (`crates/node_store/README.md`, "What a disk stands for"), for all servers,
+/// setups, files and stores.
 pub fn laws_of_disks()
     // A file stands for one store at most.
-    ensures one { (server : ℕ) → (setup : Setup) → (file : List ℕ) → (a b : StoreV) → FileStandsFor server setup file a → FileStandsFor server setup file b → a ≡ b }
+    ensures one { (server : ℕ) → (setup : Setup) → (file : List ℕ) → (a b : NodeAndRows)
+        → FileStandsFor server setup file a
+        → FileStandsFor server setup file b → a ≡ b }
 
     // A file that stands for a store is not damaged.
-    ensures sound { (server : ℕ) → (setup : Setup) → (file : List ℕ) → (store : StoreV) → (place : ℕ) → (damage : Damage) → IsHead 1 setup.servers server setup.threshold
-        → FileStandsFor server setup file store → IsDamaged server setup file place damage → ⊥ }
+    ensures sound { (server : ℕ) → (setup : Setup) → (file : List ℕ) → (store : NodeAndRows) → (offset : ℕ)
+        → (damage : Damage) → IsHead 1 setup.servers server setup.threshold
+        → FileStandsFor server setup file store → IsDamaged server setup file offset damage → ⊥ }
+
+    // On other terms that share the head a file stands for the same store, on those terms.
+    ensures terms { (server : ℕ) → (setup terms : Setup) → SharesHead setup terms → (file : List ℕ)
+        → (store : NodeAndRows) → FileStandsFor server setup file store
+        → FileStandsFor server terms file (store_on terms store) }
+
+    // One that a restart finds damaged has no log that stands for a store.
+    ensures none { (server : ℕ) → (setup : Setup) → (file : List ℕ) → (offset : ℕ) → (damage : Damage)
+        → IsHead 1 setup.servers server setup.threshold
+        → IsDamagedAtRestart server setup file offset damage → StandsForNone server setup file }
 {}

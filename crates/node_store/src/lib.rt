@@ -1,9 +1,9 @@
 //! A server on a disk: each change is one record and one append to its log.
 //!
 //! It stands on `mds_base`, `records`, `gate_log` and `node_core`, over any `Disk` of `mds_out`. The definitions that
-//! the layers above cite are `FileStandsFor`, `KeepsStore` and `IsDownAt` (`docs/DEFINITIONS.md`, "What a disk stands
-//! for"). The contract: after Ok of `serve_batch` the disk keeps the new store, and a crash at any moment of the call
-//! leaves the old store or the new one; after a refused append the server is down, and a restart keeps all of its
+//! the layers above cite are `FileStandsFor`, `KeepsStore` and `IsDownAt` (`crates/node_store/README.md`, "What a disk
+//! stands for"). The contract: after Ok of `serve_batch` the disk keeps the new store, and a crash at any moment of the
+//! call leaves the old store or the new one; after a refused append the server is down, and a restart keeps all of its
 //! records in doubt or none.
 #![tactic(auto)]
 

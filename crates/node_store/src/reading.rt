@@ -1,5 +1,6 @@
 //! Reading a server's log: its head, and then body by body and record by record.
-ghost use Rattle.std.specs.Prelude.{◌≡◌, ◌+◌, ◌^◌, ◌<◌, ◌≤◌, ℕ, List, false, length, IfOk, IfErr, OnOk, IfSome, MatchOption};
+ghost use Rattle.std.specs.Prelude.{◌≡◌, ◌+◌, ◌^◌, ◌<◌, ◌≤◌, ℕ, List, false, length, IfOk, IfErr, OnOk, IfSome};
+ghost use Rattle.std.specs.Prelude.{MatchOption};
 ghost use Rattle.mds_base.specs.declared.limits.TheConstants.{LEASE_MOST};
 ghost use Rattle.mds_base.specs.declared.setup.Setup.{Setup};
 ghost use Rattle.mds_out.specs.Known.{OnTold};
@@ -10,7 +11,8 @@ ghost use Rattle.node_store.specs.Parts.{IsNodeOf};
 ghost use Rattle.node_store.specs.Disks.{IsStoreReading};
 ghost use Rattle.node_store.specs.Stands.{new_store};
 ghost use Rattle.node_store.specs.Store.{HoldsStore};
-ghost use Rattle.node_store.specs.Reading.{TakesFirst, IsBodyRead, IsHeadRead, IsHeadFound, IsHeadOf, IsFrontOf, HasReplayed, ReplaysOn, IsRefusal, IsBad, store_fault_of, disk_fault_of};
+ghost use Rattle.node_store.specs.Reading.{TakesFirst, IsBodyRead, IsHeadRead, IsHeadFound, IsHeadOf, IsFrontOf};
+ghost use Rattle.node_store.specs.Reading.{HasReplayed, ReplaysOn, IsRefusal, IsBad, store_fault_of, disk_fault_of};
 
 use gate_log::{GateLog, LogFault};
 use mds_base::{Damage, Head, MapRows, Setup, StoreFault};
@@ -35,12 +37,14 @@ pub(crate) fn read_log<D: Disk>(
     requires ready { IsReady log.old (D.seen disk.old) (D.sizes disk.old) (D.images disk.old) }
     requires short { log.old.length < 2 ^ 63 }
     requires some { 1 < log.old.length }
-    ensures read { IfOk result (λ x. OnTold (D.seen disk.old 1) (HoldsStore server setup log.old (record { node = x.0; rows = x.1 }))) }
+    ensures read { IfOk result
+        (λ x. OnTold (D.seen disk.old 1) (HoldsStore server setup log.old (record { node = x.0; rows = x.1 }))) }
     ensures node { IfOk result (λ x. IsNodeOf server setup x.0) }
     ensures refused { IfErr result (IsRefusal (IsBad server setup) (D.seen disk.old 1)) }
     ensures same { OnOk result (log.new ≡ log.old) }
     ensures ready { OnOk result (IsReady log.old (D.seen disk.new) (D.sizes disk.new) (D.images disk.new)) }
-    ensures call { IsStoreReading D.seen D.sizes D.images D.moment D.images_since D.faults D.changes_asked D.lasts D.fails disk.old disk.new result }
+    ensures call { IsStoreReading D.seen D.sizes D.images D.moment D.images_since D.faults D.changes_asked D.lasts
+        D.fails disk.old disk.new result }
 {
     let mut body = Vec::new(alloc);
     let mut gate = read_first(alloc, disk, log, server, setup, &mut body)?;
@@ -67,13 +71,16 @@ fn read_first<D: Disk>(
     requires ready { IsReady log.old (D.seen disk.old) (D.sizes disk.old) (D.images disk.old) }
     requires short { log.old.length < 2 ^ 63 }
     requires some { 1 < log.old.length }
-    ensures read { IfOk result (λ next. OnTold (D.seen disk.new log.old.file) (HasReplayed server setup log.old next (new_store server setup))) }
+    ensures read { IfOk result
+        (λ next. OnTold (D.seen disk.new log.old.file)
+        (HasReplayed server setup log.old next (new_store server setup))) }
     ensures gate { IfOk result (λ next. OnTold (D.seen disk.new log.old.file) (IsSomeGate log.old next)) }
     ensures within { IfOk result (λ next. next < log.old.length) }
     ensures refused { IfErr result (IsRefusal (IsBad server setup) (D.seen disk.old log.old.file)) }
     ensures same { OnOk result (log.new ≡ log.old) }
     ensures ready { OnOk result (IsReady log.old (D.seen disk.new) (D.sizes disk.new) (D.images disk.new)) }
-    ensures call { IsStoreReading D.seen D.sizes D.images D.moment D.images_since D.faults D.changes_asked D.lasts D.fails disk.old disk.new result }
+    ensures call { IsStoreReading D.seen D.sizes D.images D.moment D.images_since D.faults D.changes_asked D.lasts
+        D.fails disk.old disk.new result }
 {
     let Some(next) = next_body(disk, log, 0, body)? else {
         unreachable!()
@@ -82,7 +89,7 @@ fn read_first<D: Disk>(
         None => Ok(next),
         Some(damage) => Err(StoreFault::Damaged {
             file: 1,
-            place: 5,
+            offset: 5,
             damage,
         }),
     }
@@ -103,25 +110,35 @@ fn replay_at<D: Disk>(
     requires short { log.old.length < 2 ^ 63 }
     requires within { at < log.old.length }
     requires gate { OnTold (D.seen disk.old log.old.file) (IsSomeGate log.old at) }
-    ensures replayed { IfOk result (λ next. (server : ℕ) → (setup : Setup) → OnTold (D.seen disk.old log.old.file) (HasReplayed server setup log.old at (record { node = node.old; rows = rows.old }))
-        → OnTold (D.seen disk.new log.old.file) (ReplaysOn server setup log.old next (record { node = node.new; rows = rows.new }))) }
-    ensures gate { IfOk result (λ next. IfSome next (λ place. OnTold (D.seen disk.new log.old.file) (IsSomeGate log.old place))) }
-    ensures onward { IfOk result (λ next. IfSome next (λ place. (at < place) × (place < log.old.length))) }
-    ensures node { OnOk result ((server : ℕ) → (setup : Setup) → IsNodeOf server setup node.old → IsNodeOf server setup node.new) }
-    ensures refused { IfErr result (λ fault. (server : ℕ) → (setup : Setup) → OnTold (D.seen disk.old log.old.file) (HasReplayed server setup log.old at (record { node = node.old; rows = rows.old }))
+    ensures replayed { IfOk result
+        (λ next. (server : ℕ) → (setup : Setup)
+        → OnTold (D.seen disk.old log.old.file)
+        (HasReplayed server setup log.old at (record { node = node.old; rows = rows.old }))
+        → OnTold (D.seen disk.new log.old.file)
+        (ReplaysOn server setup log.old next (record { node = node.new; rows = rows.new }))) }
+    ensures gate { IfOk result
+        (λ next. IfSome next (λ offset. OnTold (D.seen disk.new log.old.file) (IsSomeGate log.old offset))) }
+    ensures onward { IfOk result (λ next. IfSome next (λ offset. (at < offset) × (offset < log.old.length))) }
+    ensures node { OnOk result
+        ((server : ℕ) → (setup : Setup) → IsNodeOf server setup node.old → IsNodeOf server setup node.new) }
+    ensures refused { IfErr result
+        (λ fault. (server : ℕ) → (setup : Setup)
+        → OnTold (D.seen disk.old log.old.file)
+        (HasReplayed server setup log.old at (record { node = node.old; rows = rows.old }))
         → IsRefusal (IsBad server setup) (D.seen disk.old log.old.file) fault) }
     ensures same { OnOk result (log.new ≡ log.old) }
     ensures ready { OnOk result (IsReady log.old (D.seen disk.new) (D.sizes disk.new) (D.images disk.new)) }
-    ensures call { IsStoreReading D.seen D.sizes D.images D.moment D.images_since D.faults D.changes_asked D.lasts D.fails disk.old disk.new result }
+    ensures call { IsStoreReading D.seen D.sizes D.images D.moment D.images_since D.faults D.changes_asked D.lasts
+        D.fails disk.old disk.new result }
 {
     let Some(next) = next_body(disk, log, at, body)? else {
         return Ok(None);
     };
     match read_body(alloc, body, node, rows)? {
         None => Ok(Some(next)),
-        Some(place) => Err(StoreFault::Damaged {
+        Some(offset) => Err(StoreFault::Damaged {
             file: 1,
-            place: at + 5 + place as u64,
+            offset: at + 5 + offset as u64,
             damage: Damage::Spelling,
         }),
     }
@@ -139,15 +156,19 @@ fn next_body<D: Disk>(
     requires short { log.old.length < 2 ^ 63 }
     requires within { at < log.old.length }
     requires gate { OnTold (D.seen disk.old log.old.file) (IsSomeGate log.old at) }
-    ensures read { IfOk result (λ next. (read : List (List ℕ)) → OnTold (D.seen disk.old log.old.file) (HasRead log.old at read)
+    ensures read { IfOk result
+        (λ next. (read : List (List ℕ)) → OnTold (D.seen disk.old log.old.file) (HasRead log.old at read)
         → OnTold (D.seen disk.new log.old.file) (ReadsOn log.old read next into.new.items)) }
-    ensures next { IfOk result (λ next. IfSome next (λ place. place ≡ at + 5 + length into.new.items)) }
-    ensures gate { IfOk result (λ next. IfSome next (λ place. OnTold (D.seen disk.new log.old.file) (IsSomeGate log.old place))) }
-    ensures end { IfOk result (λ next. MatchOption next (at + 1 ≡ log.old.length) (λ place. (at < place) × (place < log.old.length))) }
-    ensures refused { IfErr result (IsRefusal (λ place damage bytes. ⊥) (D.seen disk.old log.old.file)) }
+    ensures next { IfOk result (λ next. IfSome next (λ offset. offset ≡ at + 5 + length into.new.items)) }
+    ensures gate { IfOk result
+        (λ next. IfSome next (λ offset. OnTold (D.seen disk.new log.old.file) (IsSomeGate log.old offset))) }
+    ensures end { IfOk result
+        (λ next. MatchOption next (at + 1 ≡ log.old.length) (λ offset. (at < offset) × (offset < log.old.length))) }
+    ensures refused { IfErr result (IsRefusal (λ offset damage bytes. ⊥) (D.seen disk.old log.old.file)) }
     ensures same { OnOk result (log.new ≡ log.old) }
     ensures ready { OnOk result (IsReady log.old (D.seen disk.new) (D.sizes disk.new) (D.images disk.new)) }
-    ensures call { IsStoreReading D.seen D.sizes D.images D.moment D.images_since D.faults D.changes_asked D.lasts D.fails disk.old disk.new result }
+    ensures call { IsStoreReading D.seen D.sizes D.images D.moment D.images_since D.faults D.changes_asked D.lasts
+        D.fails disk.old disk.new result }
 {
     match log.replay(disk, at, into) {
         Ok(next) => Ok(next),
@@ -162,9 +183,9 @@ pub(crate) fn store_fault(fault: LogFault) -> StoreFault
     match fault {
         LogFault::Device => StoreFault::Device,
         LogFault::Stopped => StoreFault::Stopped,
-        LogFault::BadLog { place } => StoreFault::Damaged {
+        LogFault::BadLog { offset } => StoreFault::Damaged {
             file: 1,
-            place,
+            offset,
             damage: Damage::Spelling,
         },
         LogFault::OutOfMemory => StoreFault::OutOfMemory,
@@ -243,15 +264,17 @@ fn read_body(
     node: &mut Node,
     rows: &mut MapRows,
 ) -> Result<Option<usize>, AllocError>
-    ensures { IfOk result (λ wrong. IsBodyRead (record { node = node.old; rows = rows.old }) body.now wrong (record { node = node.new; rows = rows.new })) }
+    ensures { IfOk result
+        (λ wrong. IsBodyRead (record { node = node.old; rows = rows.old }) body.now wrong
+        (record { node = node.new; rows = rows.new })) }
 {
-    let mut place = 0;
+    let mut offset = 0;
     'records: loop {
-        match replay_first(alloc, &body[place..], node, rows)? {
-            Some(count) => place += count,
-            None => return Ok(Some(place)),
+        match replay_first(alloc, &body[offset..], node, rows)? {
+            Some(count) => offset += count,
+            None => return Ok(Some(offset)),
         }
-        if place == body.len() {
+        if offset == body.len() {
             return Ok(None);
         }
     }
@@ -264,7 +287,9 @@ fn replay_first(
     node: &mut Node,
     rows: &mut MapRows,
 ) -> Result<Option<usize>, AllocError>
-    ensures { IfOk result (λ count. TakesFirst (record { node = node.old; rows = rows.old }) bytes.now count (record { node = node.new; rows = rows.new })) }
+    ensures { IfOk result
+        (λ count. TakesFirst (record { node = node.old; rows = rows.old }) bytes.now count
+        (record { node = node.new; rows = rows.new })) }
 {
     let Some((item, count)) = front_of(alloc, bytes)? else {
         return Ok(None);

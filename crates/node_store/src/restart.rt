@@ -1,17 +1,17 @@
 //! A server that is down is brought back from what its disk gives.
-ghost use Rattle.std.specs.Prelude.{◌≡◌, ◌^◌, ◌<◌, ◌≤◌, ℕ, [], None, Some, false, nat_lt, if◌then◌else◌, take, length, IfOk, IfErr, OnOk, OnErr};
+ghost use Rattle.std.specs.Prelude.{◌≡◌, ◌^◌, ◌<◌, ◌≤◌, ℕ, [], None, Some, false, nat_lt, if◌then◌else◌, take, length};
+ghost use Rattle.std.specs.Prelude.{IfOk, IfErr, OnOk, OnErr};
 ghost use Rattle.mds_base.specs.declared.limits.TheConstants.{LEASE_MOST, MOMENTS};
 ghost use Rattle.records.specs.Spelling.{IsHead};
 ghost use Rattle.gate_log.specs.LogState.{IsReady};
 ghost use Rattle.mds_out.specs.Disk.{Image, LeavesOnly, StaysTold};
 ghost use Rattle.mds_out.specs.Known.{OnTold};
-ghost use Rattle.node_core.specs.Nodes.{StoreV};
+ghost use Rattle.node_core.specs.Nodes.{NodeAndRows};
 ghost use Rattle.node_core.specs.Serving.{restarted, replayed_all};
 ghost use Rattle.node_store.specs.Parts.{IsNodeOf};
-ghost use Rattle.node_store.specs.Reading.{IsRefusal};
+ghost use Rattle.node_store.specs.Reading.{IsRefusal, IsBadAtRestart};
 ghost use Rattle.node_store.specs.Serve.{IsAllOrNone};
 ghost use Rattle.node_store.specs.Disks.{IsStoreReading, IsStoreChanging};
-ghost use Rattle.node_store.specs.Stands.{StandsForNone};
 ghost use Rattle.node_store.specs.Store.{IsKept, IsDownAt, KeepsStore};
 
 use crate::NodeStore;
@@ -37,15 +37,18 @@ fn read_whole<D: Disk>(
     requires running { log.stopped ≡ false }
     requires ready { IsReady log (D.seen disk.old) (D.sizes disk.old) (D.images disk.old) }
     requires short { log.length < 2 ^ 63 }
-    ensures kept { IfOk result (λ x. IsKept (D.seen disk.new) (D.sizes disk.new) (D.images disk.new) server setup x.0 (record { node = x.1; rows = x.2 })) }
+    ensures kept { IfOk result
+        (λ x. IsKept (D.seen disk.new) (D.sizes disk.new) (D.images disk.new) server setup x.0
+        (record { node = x.1; rows = x.2 })) }
     ensures node { IfOk result (λ x. IsNodeOf server setup x.1) }
-    ensures refused { IfErr result (IsRefusal (λ _ _. StandsForNone server setup) (D.seen disk.new 1)) }
-    ensures call { IsStoreReading D.seen D.sizes D.images D.moment D.images_since D.faults D.changes_asked D.lasts D.fails disk.old disk.new result }
+    ensures refused { IfErr result (IsRefusal (IsBadAtRestart server setup) (D.seen disk.new 1)) }
+    ensures call { IsStoreReading D.seen D.sizes D.images D.moment D.images_since D.faults D.changes_asked D.lasts
+        D.fails disk.old disk.new result }
 {
     if log.length() <= 1 {
         return Err(StoreFault::Damaged {
             file: 1,
-            place: 0,
+            offset: 0,
             damage: Damage::Spelling,
         });
     }
@@ -63,9 +66,11 @@ fn reopened<D: Disk>(
 ) -> Result<(GateLog, Node, MapRows), StoreFault>
     requires head { IsHead 1 setup.servers server setup.threshold }
     requires lease { setup.lease ≤ LEASE_MOST }
-    ensures kept { IfOk result (λ x. IsKept (D.seen disk.new) (D.sizes disk.new) (D.images disk.new) server setup x.0 (record { node = x.1; rows = x.2 })) }
+    ensures kept { IfOk result
+        (λ x. IsKept (D.seen disk.new) (D.sizes disk.new) (D.images disk.new) server setup x.0
+        (record { node = x.1; rows = x.2 })) }
     ensures node { IfOk result (λ x. IsNodeOf server setup x.1) }
-    ensures refused { IfErr result (IsRefusal (λ _ _. StandsForNone server setup) (D.seen disk.new 1)) }
+    ensures refused { IfErr result (IsRefusal (IsBadAtRestart server setup) (D.seen disk.new 1)) }
     ensures told { StaysTold (D.seen disk.old 1) (D.seen disk.new 1) }
     ensures crash { (image : Image) → D.images disk.new image → D.images disk.old image }
     ensures any_moment { LeavesOnly D.moment D.images_since disk.old disk.new (D.images disk.old) }
@@ -101,16 +106,28 @@ impl<D: Disk> NodeStore<D> {
         ensures kept { IfOk result (λ kept. IsAllOrNone kept (length self.old.doubt)) }
 
         // The server is up with the store that its disk owed it, and with the records that were kept.
-        ensures up { IfOk result (λ kept. (store : StoreV) → IsDownAt D.seen D.images self.old store → OnTold (D.seen self.new.disk 1) (λ _. self.new.up ≡ Some (restarted (replayed_all store (take kept self.old.doubt)) now))) }
-        ensures some { OnOk result ((store : StoreV) × (self.new.up ≡ Some store)) }
+        ensures up { IfOk result
+            (λ kept. (store : NodeAndRows) → IsDownAt D.seen D.images self.old store
+            → OnTold (D.seen self.new.disk 1)
+            (λ _. self.new.up ≡ Some (restarted (replayed_all store (take kept self.old.doubt)) now))) }
+        ensures some { OnOk result ((store : NodeAndRows) × (self.new.up ≡ Some store)) }
         ensures sure { OnOk result (self.new.doubt ≡ []) }
-        ensures keeps { OnOk result ((store : StoreV) → self.new.up ≡ Some store → OnTold (D.seen self.new.disk 1) (λ _. KeepsStore (D.images self.new.disk) self.new.server self.new.setup store)) }
-        ensures down { OnErr result ((self.new.up ≡ None) × (self.new.doubt ≡ self.old.doubt) × (self.new.log ≡ self.old.log)) }
-        ensures owed { OnErr result ((store : StoreV) → IsDownAt D.seen D.images self.old store → IsDownAt D.seen D.images self.new store) }
+        ensures keeps { OnOk result
+            ((store : NodeAndRows) → self.new.up ≡ Some store
+            → OnTold (D.seen self.new.disk 1)
+            (λ _. KeepsStore (D.images self.new.disk) self.new.server self.new.setup store)) }
+        ensures down { OnErr result
+            ((self.new.up ≡ None) × (self.new.doubt ≡ self.old.doubt) × (self.new.log ≡ self.old.log)) }
+        ensures owed { OnErr result
+            ((store : NodeAndRows) → IsDownAt D.seen D.images self.old store
+            → IsDownAt D.seen D.images self.new store) }
 
-        // `Damaged` comes only where the log stands for no store, and never where the disk owes the server one.
-        ensures damaged { IfErr result (IsRefusal (λ _ _. StandsForNone self.old.server self.old.setup) (D.seen self.new.disk 1)) }
-        ensures sound { IfErr result (λ fault. (store : StoreV) → IsDownAt D.seen D.images self.old store → IsRefusal (λ _ _ _. ⊥) (D.seen self.new.disk 1) fault) }
+        // `Damaged` says what is wrong with the log and where, and never comes where the disk owes the server a store.
+        ensures damaged { IfErr result
+            (IsRefusal (IsBadAtRestart self.old.server self.old.setup) (D.seen self.new.disk 1)) }
+        ensures sound { IfErr result
+            (λ fault. (store : NodeAndRows) → IsDownAt D.seen D.images self.old store
+            → IsRefusal (λ _ _ _. ⊥) (D.seen self.new.disk 1) fault) }
         ensures any_moment { LeavesOnly D.moment D.images_since self.old.disk self.new.disk (D.images self.old.disk) }
         ensures same { (self.new.server ≡ self.old.server) × (self.new.setup ≡ self.old.setup) }
         ensures told { StaysTold (D.seen self.old.disk 1) (D.seen self.new.disk 1) }

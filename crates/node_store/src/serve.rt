@@ -1,5 +1,6 @@
 //! One message at a server that is up.
-ghost use Rattle.std.specs.Prelude.{◌≡◌, ◌^◌, ◌<◌, ◌≤◌, [], ℕ, true, false, IfOk, IfErr, OnOk, OnErr, IsErrOf, MatchOption, length};
+ghost use Rattle.std.specs.Prelude.{◌≡◌, ◌^◌, ◌<◌, ◌≤◌, [], ℕ, true, false, IfOk, IfErr, OnOk, OnErr, IsErrOf};
+ghost use Rattle.std.specs.Prelude.{MatchOption, length};
 ghost use Rattle.std.specs.List.{AllByRecursion, flat_map};
 ghost use Rattle.mds_base.specs.declared.limits.TheConstants.{MOMENTS, SERVERS_MOST};
 ghost use Rattle.mds_base.specs.declared.setup.Setup.{Setup};
@@ -10,7 +11,7 @@ ghost use Rattle.gate_log.specs.Disks.{IsLogChanging};
 ghost use Rattle.gate_log.specs.LogState.{IsReady};
 ghost use Rattle.mds_out.specs.Disk.{LeavesOnly, StaysTold};
 ghost use Rattle.mds_out.specs.Known.{OnTold};
-ghost use Rattle.node_core.specs.Nodes.{StoreV, has_numbers};
+ghost use Rattle.node_core.specs.Nodes.{NodeAndRows, has_numbers};
 ghost use Rattle.node_core.specs.Serving.{serve, IsServed, replayed_all};
 ghost use Rattle.node_store.specs.Parts.{IsNodeOf, OfEach, OfEachBody};
 ghost use Rattle.node_store.specs.Refused.{AreDisks, InDoubt, IsDevice, HasRefusalCause};
@@ -61,11 +62,18 @@ fn append<D: Disk>(disk: &mut D, log: &mut GateLog, piece: &Piece) -> Result<(),
     requires short { log.old.length ≤ 2 ^ 62 }
     requires running { log.old.stopped ≡ false }
     requires ready { IsReady log.old (D.seen disk.old) (D.sizes disk.old) (D.images disk.old) }
-    ensures kept { OnOk result (OfEachBody (D.seen disk.old) (D.sizes disk.old) (D.images disk.old) log.old piece.now (λ server setup store items.
-        IsKept (D.seen disk.new) (D.sizes disk.new) (D.images disk.new) server setup log.new (replayed_all store items))) }
-    ensures any_moment { OfEachBody (D.seen disk.old) (D.sizes disk.old) (D.images disk.old) log.old piece.now (λ server setup store items.
-        OnTold (D.seen disk.old 1) (λ _. LeavesOnly D.moment D.images_since disk.old disk.new (StandsForEither server setup store (replayed_all store items)))) }
-    ensures doubt { OnErr result (OfEachBody (D.seen disk.old) (D.sizes disk.old) (D.images disk.old) log.old piece.now (λ server setup store items.
+    ensures kept { OnOk result
+        (OfEachBody (D.seen disk.old) (D.sizes disk.old) (D.images disk.old) log.old piece.now
+        (λ server setup store items.
+        IsKept (D.seen disk.new) (D.sizes disk.new) (D.images disk.new) server setup log.new
+        (replayed_all store items))) }
+    ensures any_moment { OfEachBody (D.seen disk.old) (D.sizes disk.old) (D.images disk.old) log.old piece.now
+        (λ server setup store items.
+        OnTold (D.seen disk.old 1) (λ _. LeavesOnly D.moment D.images_since disk.old disk.new
+        (StandsForEither server setup store (replayed_all store items)))) }
+    ensures doubt { OnErr result
+        (OfEachBody (D.seen disk.old) (D.sizes disk.old) (D.images disk.old) log.old piece.now
+        (λ server setup store items.
         OnTold (D.seen disk.new 1) (λ _. LeavesDoubt (D.images disk.new) server setup log.new store items))) }
     ensures told { StaysTold (D.seen disk.old 1) (D.seen disk.new 1) }
     ensures answer { IsDiskAnswer result }
@@ -109,7 +117,8 @@ fn prepared(
     requires numbers { has_numbers node.old ≡ true }
     requires range { node.old.server < SERVERS_MOST }
     requires from_two { 2 ≤ node.old.next }
-    ensures served { IfOk result (λ x. IsServed (serve (record { node = node.old; rows = rows.old }) msg.now now) node.new rows.new x.0) }
+    ensures served { IfOk result
+        (λ x. IsServed (serve (record { node = node.old; rows = rows.old }) msg.now now) node.new rows.new x.0) }
     ensures piece { IfOk result (λ x. MatchOption x.1 (x.0.records ≡ []) (λ body. IsBody body x.0.records)) }
     ensures short { IfOk result (λ x. MatchOption x.1 (Unit {0}) (λ _. length ≤ 2 ^ 62)) }
     ensures err { OnErr result ((node.new ≡ node.old) × (rows.new ≡ rows.old)) }
@@ -146,16 +155,30 @@ pub(crate) fn serve_on<D: Disk>(
     requires file { log.old.file ≡ 1 }
     requires running { log.old.stopped ≡ false }
     requires ready { IsReady log.old (D.seen disk.old) (D.sizes disk.old) (D.images disk.old) }
-    ensures served { IfOk result (λ handled. IsServed (serve (record { node = node.old; rows = rows.old }) msg.now now) node.new rows.new handled) }
-    ensures kept { OnOk result (OfEach (D.seen disk.old) (D.sizes disk.old) (D.images disk.old) log.old (record { node = node.old; rows = rows.old }) (λ server setup.
-        IsKept (D.seen disk.new) (D.sizes disk.new) (D.images disk.new) server setup log.new (serve (record { node = node.old; rows = rows.old }) msg.now now).store)) }
-    ensures any_moment { OfEach (D.seen disk.old) (D.sizes disk.old) (D.images disk.old) log.old (record { node = node.old; rows = rows.old }) (λ server setup.
+    ensures served { IfOk result
+        (λ handled. IsServed (serve (record { node = node.old; rows = rows.old }) msg.now now) node.new rows.new
+        handled) }
+    ensures kept { OnOk result
+        (OfEach (D.seen disk.old) (D.sizes disk.old) (D.images disk.old) log.old
+        (record { node = node.old; rows = rows.old }) (λ server setup.
+        IsKept (D.seen disk.new) (D.sizes disk.new) (D.images disk.new) server setup log.new
+        (serve (record { node = node.old; rows = rows.old }) msg.now now).store)) }
+    ensures any_moment { OfEach (D.seen disk.old) (D.sizes disk.old) (D.images disk.old) log.old
+        (record { node = node.old; rows = rows.old }) (λ server setup.
         OnTold (D.seen disk.old 1) (λ _. LeavesOnly D.moment D.images_since disk.old disk.new
-        (StandsForEither server setup (record { node = node.old; rows = rows.old }) (serve (record { node = node.old; rows = rows.old }) msg.now now).store))) }
-    ensures memory { IsErrOf result Refusal.Memory → (disk.new ≡ disk.old) × (log.new ≡ log.old) × (node.new ≡ node.old) × (rows.new ≡ rows.old) }
-    ensures doubt { IfErr result (λ refusal. InDoubt refusal (λ doubt. doubt ≡ (serve (record { node = node.old; rows = rows.old }) msg.now now).records)) }
-    ensures left { IfErr result (λ refusal. InDoubt refusal (λ doubt. OfEach (D.seen disk.old) (D.sizes disk.old) (D.images disk.old) log.old (record { node = node.old; rows = rows.old }) (λ server setup.
-        OnTold (D.seen disk.new 1) (λ _. LeavesDoubt (D.images disk.new) server setup log.new (record { node = node.old; rows = rows.old }) doubt)))) }
+        (StandsForEither server setup (record { node = node.old; rows = rows.old })
+        (serve (record { node = node.old; rows = rows.old }) msg.now now).store))) }
+    ensures memory { IsErrOf result Refusal.Memory
+        → (disk.new ≡ disk.old) × (log.new ≡ log.old) × (node.new ≡ node.old) × (rows.new ≡ rows.old) }
+    ensures doubt { IfErr result
+        (λ refusal. InDoubt refusal
+        (λ doubt. doubt ≡ (serve (record { node = node.old; rows = rows.old }) msg.now now).records)) }
+    ensures left { IfErr result
+        (λ refusal. InDoubt refusal
+        (λ doubt. OfEach (D.seen disk.old) (D.sizes disk.old) (D.images disk.old) log.old
+        (record { node = node.old; rows = rows.old }) (λ server setup.
+        OnTold (D.seen disk.new 1) (λ _. LeavesDoubt (D.images disk.new) server setup log.new
+        (record { node = node.old; rows = rows.old }) doubt)))) }
     ensures disks { IfErr result AreDisks }
     ensures told { StaysTold (D.seen disk.old 1) (D.seen disk.new 1) }
     ensures cause { HasRefusalCause (D.faults disk.old) (D.faults disk.new) result }

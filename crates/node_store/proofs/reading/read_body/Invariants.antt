@@ -4,7 +4,7 @@ use Rattle.node_store.proofs.reading.read_body.Given as goal
 
 -- the records so far were replayed
 abbrev pub invariant-records : goal.invariant-records
-invariant-records l = IsRead (record { node = l.fn.node; rows = l.fn.rows }) l.body l.place (record { node = l.node; rows = l.rows })
+invariant-records l = IsRead (record { node = l.fn.node; rows = l.fn.rows }) l.body l.offset (record { node = l.node; rows = l.rows })
 
 abbrev pub decreases-records : goal.decreases-records
-decreases-records l = length l.body - l.place
+decreases-records l = length l.body - l.offset

@@ -3,7 +3,7 @@ use Rattle.mds_base.specs.declared.setup.Setup.{Setup}
 use Rattle.mds_out.specs.Known.{OnTold}
 use Rattle.gate_log.specs.Calls.{IsSomeGate}
 use Rattle.gate_log.specs.LogState.{LogState, IsReady}
-use Rattle.node_core.specs.Nodes.{StoreV}
+use Rattle.node_core.specs.Nodes.{NodeAndRows}
 use Rattle.node_store.specs.Reading.{HasReplayed, ReplaysOn}
 use Rattle.node_store.proofs.Stores.{reads_on}
 use Rattle.node_store.proofs.reading.read_log.Goals as goal
@@ -14,8 +14,8 @@ bodies-preserved g c =
     let seen = g.D.Disk.seen c.bodies.disk in
     let seen' = g.D.Disk.seen c.replay_at.new.disk in
     let next = c.in-Some.next in
-    let old : StoreV = record { node = c.bodies.node; rows = c.bodies.rows } in
-    let new : StoreV = record { node = c.replay_at.new.node; rows = c.replay_at.new.rows } in
+    let old : NodeAndRows = record { node = c.bodies.node; rows = c.bodies.rows } in
+    let new : NodeAndRows = record { node = c.replay_at.new.node; rows = c.replay_at.new.rows } in
     let P : LogState → Type 0 = λ log. (server : ℕ) → (setup : Setup) → OnTold (seen log.file) (HasReplayed server setup log c.bodies.gate old) → OnTold (seen' log.file) (ReplaysOn server setup log (Some next) new) in
     let Q : LogState → Type 0 = λ log. OnTold (seen' log.file) (IsSomeGate log next) in
     let W : LogState → Type 0 = λ log. next < log.length in

@@ -1,7 +1,7 @@
 use Rattle.std.proofs.Common.{subst, sym, List}
 use Rattle.mds_out.specs.Disk.{LeavesOnly}
 use Rattle.mds_out.specs.Known.{OnTold}
-use Rattle.node_core.specs.Nodes.{StoreV}
+use Rattle.node_core.specs.Nodes.{NodeAndRows}
 use Rattle.node_core.specs.Serving.{serve}
 use Rattle.records.specs.declared.record.Record.{Record}
 use Rattle.node_store.specs.Store.{IsKept, LeavesDoubt, StandsForEither}
@@ -11,31 +11,31 @@ use Rattle.node_store.proofs.serve.serve_on.Goals as goal
 pub returns-in-Ok-clause-kept : goal.returns-in-Ok-clause-kept
 returns-in-Ok-clause-kept g c = λ server setup k.
     let r = c.requires in
-    let store : StoreV = record { node = c.args.node.now; rows = c.args.rows.now } in
+    let store : NodeAndRows = record { node = c.args.node.now; rows = c.args.rows.now } in
     let b = served_body store c.args.msg.now c.args.now c.in-Some.piece c.in_ok-handled.handled.records r.made r.numbers r.range r.from_two c.in_ok-handled.ensures.served.records (rw c.in-Some.is at c.in_ok-handled.ensures.piece) in
-    subst (λ (s : StoreV). IsKept (g.D.Disk.seen c.append.new.disk) (g.D.Disk.sizes c.append.new.disk) (g.D.Disk.images c.append.new.disk) server setup c.append.new.log s) b.leads
+    subst (λ (s : NodeAndRows). IsKept (g.D.Disk.seen c.append.new.disk) (g.D.Disk.sizes c.append.new.disk) (g.D.Disk.images c.append.new.disk) server setup c.append.new.log s) b.leads
     (c.in-Ok.ensures.kept server setup store (serve store c.args.msg.now c.args.now).records b.is b.follow k)
 
 pub returns-in-Ok-clause-any_moment : goal.returns-in-Ok-clause-any_moment
 returns-in-Ok-clause-any_moment g c = λ server setup k.
     let r = c.requires in
-    let store : StoreV = record { node = c.args.node.now; rows = c.args.rows.now } in
+    let store : NodeAndRows = record { node = c.args.node.now; rows = c.args.rows.now } in
     let b = served_body store c.args.msg.now c.args.now c.in-Some.piece c.in_ok-handled.handled.records r.made r.numbers r.range r.from_two c.in_ok-handled.ensures.served.records (rw c.in-Some.is at c.in_ok-handled.ensures.piece) in
-    subst (λ (s : StoreV). OnTold (g.D.Disk.seen c.args.disk.now 1) (λ _. LeavesOnly g.D.Disk.moment g.D.Disk.images_since c.args.disk.now c.append.new.disk (StandsForEither server setup store s))) b.leads
+    subst (λ (s : NodeAndRows). OnTold (g.D.Disk.seen c.args.disk.now 1) (λ _. LeavesOnly g.D.Disk.moment g.D.Disk.images_since c.args.disk.now c.append.new.disk (StandsForEither server setup store s))) b.leads
     (c.in-Ok.ensures.any_moment server setup store (serve store c.args.msg.now c.args.now).records b.is b.follow k)
 
 pub returns-in-Err-clause-any_moment : goal.returns-in-Err-clause-any_moment
 returns-in-Err-clause-any_moment g c = λ server setup k.
     let r = c.requires in
-    let store : StoreV = record { node = c.args.node.now; rows = c.args.rows.now } in
+    let store : NodeAndRows = record { node = c.args.node.now; rows = c.args.rows.now } in
     let b = served_body store c.args.msg.now c.args.now c.in-Some.piece c.in_ok-handled.handled.records r.made r.numbers r.range r.from_two c.in_ok-handled.ensures.served.records (rw c.in-Some.is at c.in_ok-handled.ensures.piece) in
-    subst (λ (s : StoreV). OnTold (g.D.Disk.seen c.args.disk.now 1) (λ _. LeavesOnly g.D.Disk.moment g.D.Disk.images_since c.args.disk.now c.append.new.disk (StandsForEither server setup store s))) b.leads
+    subst (λ (s : NodeAndRows). OnTold (g.D.Disk.seen c.args.disk.now 1) (λ _. LeavesOnly g.D.Disk.moment g.D.Disk.images_since c.args.disk.now c.append.new.disk (StandsForEither server setup store s))) b.leads
     (c.in-Err.ensures.any_moment server setup store (serve store c.args.msg.now c.args.now).records b.is b.follow k)
 
 pub returns-in-Err-clause-left : goal.returns-in-Err-clause-left
 returns-in-Err-clause-left g c = λ server setup k.
     let r = c.requires in
-    let store : StoreV = record { node = c.args.node.now; rows = c.args.rows.now } in
+    let store : NodeAndRows = record { node = c.args.node.now; rows = c.args.rows.now } in
     let b = served_body store c.args.msg.now c.args.now c.in-Some.piece c.in_ok-handled.handled.records r.made r.numbers r.range r.from_two c.in_ok-handled.ensures.served.records (rw c.in-Some.is at c.in_ok-handled.ensures.piece) in
     subst (λ (i : List Record). OnTold (g.D.Disk.seen c.append.new.disk 1) (λ _. LeavesDoubt (g.D.Disk.images c.append.new.disk) server setup c.append.new.log store i)) (sym c.in_ok-handled.ensures.served.records)
     (c.in-Err.ensures.doubt server setup store (serve store c.args.msg.now c.args.now).records b.is b.follow k)

@@ -1,5 +1,5 @@
 use Rattle.std.proofs.Common.{◌≡◌, ◌∙◌, ap, subst, sym, true}
-use Rattle.node_core.specs.Nodes.{StoreV, has_numbers}
+use Rattle.node_core.specs.Nodes.{NodeAndRows, has_numbers}
 use Rattle.node_store.specs.Parts.{IsNodeOf}
 use Rattle.node_store.specs.Store.{Store, IsKept}
 use Rattle.node_store.proofs.Serving.{serve_stays, same_store}
@@ -10,10 +10,10 @@ pub invariant_of-self : goal.invariant_of-self
 invariant_of-self g c =
     let s = c.self.inside in
     let d = c.serve_on.new.disk in
-    let store : StoreV = record { node = s.node; rows = s.rows } in
+    let store : NodeAndRows = record { node = s.node; rows = s.rows } in
     let served = c.in-Ok.ensures.served in
     let before = was_up s.down store c.requires.up.0 (ap (λ (v : Store _). v.up) c.self.view_is ∙ c.requires.up.1) in
-    let numbers : has_numbers s.node ≡ true = subst (λ (x : StoreV). has_numbers x.node ≡ true) (sym before.1) c.requires.up.2 in (
+    let numbers : has_numbers s.node ≡ true = subst (λ (x : NodeAndRows). has_numbers x.node ≡ true) (sym before.1) c.requires.up.2 in (
       c.self.invariant.0,
       c.self.invariant.1,
       λ up.
