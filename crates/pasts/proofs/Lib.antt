@@ -1,0 +1,12 @@
+pub mod PastClosed
+pub mod NodeCleared
+pub mod ListPairs
+pub mod PastFound
+pub mod ServersStand
+pub mod PastBegun
+pub mod PastRefused
+pub mod ServerOpened
+pub mod DisksGiven
+pub mod ServersOpened
+pub mod DisksLeft
+pub mod PastOnTerms

@@ -1,0 +1,4 @@
+pub mod Fuses
+pub mod Openings
+pub mod Servers
+pub mod Starts
