@@ -6,4 +6,5 @@ pub mod Sentences
 pub mod Keeping
 pub mod Meanings
 pub mod Printing
-pub mod Plain
+pub mod LineRoom
+pub mod SameWords

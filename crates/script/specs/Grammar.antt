@@ -1,10 +1,12 @@
 -- The lines of a script: which bytes say which line. It knows no reader.
-use Rattle.std.specs.Prelude.{◌≡◌, ◌⊎◌, ℕ, ◌<◌, ◌≤◌, ◌^◌, List, [], ◌∷◌, Option, Some, None, MatchOption, Bool, true, false, codes, decimal, IsTrue, length, slice_index}
+use Rattle.std.specs.Prelude.{◌≡◌, ◌⊎◌, ℕ, ◌<◌, ◌≤◌, ◌^◌, List, [], ◌∷◌, Option, Some, None, MatchOption, Bool, true}
+use Rattle.std.specs.Prelude.{false, codes, decimal, IsTrue, length, slice_index}
 use Rattle.std.specs.List.{list_any}
 use Rattle.std.specs.Str.Parse.{AllDigits, digits_value}
 use Rattle.mds_base.specs.declared.limits.TheConstants.{BATCH_MOST, TICK_MOST, FUSE_MOST}
 use Rattle.mds_base.specs.declared.call.Call.{Call}
-use Rattle.mds_base.specs.declared.call.Call.TheVariants.{Create, Mkdir, Remove, Lookup, Setattr, Scan, Grab, Load, Link, Seal, Unseal, Kill, Unlink}
+use Rattle.mds_base.specs.declared.call.Call.TheVariants.{Create, Mkdir, Remove, Lookup, Setattr, Scan, Grab, Load}
+use Rattle.mds_base.specs.declared.call.Call.TheVariants.{Link, Seal, Unseal, Kill, Unlink}
 use Rattle.mds_base.specs.declared.attr.Stamp.{Stamp}
 use Rattle.mds_base.specs.declared.setup.Setup.{Setup}
 use Rattle.mds_base.specs.Calls.{is_directory, is_well_made}
@@ -42,7 +44,8 @@ piece_at (Rest text) bytes = rest_at bytes
 -- the bytes say the parts, one after another, and no word more
 abbrev pub AreSaid : List ℕ → List Part → Type 0
 AreSaid bytes [] = word_at bytes ≡ None
-AreSaid bytes (part ∷ parts) = MatchOption (piece_at part bytes) ⊥ (λ piece. IsSpelled piece.0 part × AreSaid piece.1 parts)
+AreSaid bytes (part ∷ parts) =
+    MatchOption (piece_at part bytes) ⊥ (λ piece. IsSpelled piece.0 part × AreSaid piece.1 parts)
 
 -- the words say the parts, each its own
 abbrev pub AreSpelled : List (List ℕ) → List Part → Type 0
@@ -62,7 +65,8 @@ call_parts (Create dir name) = Keyword (codes "create") ∷ Number dir ∷ Named
 call_parts (Mkdir dir name) = Keyword (codes "mkdir") ∷ Number dir ∷ Named name ∷ []
 call_parts (Remove dir name) = Keyword (codes "remove") ∷ Number dir ∷ Named name ∷ []
 call_parts (Lookup dir name) = Keyword (codes "lookup") ∷ Number dir ∷ Named name ∷ []
-call_parts (Setattr dir name mode size stamp) = Keyword (codes "setattr") ∷ Number dir ∷ Named name ∷ Number mode ∷ Number size ∷ stamp_parts stamp
+call_parts (Setattr dir name mode size stamp) =
+    Keyword (codes "setattr") ∷ Number dir ∷ Named name ∷ Number mode ∷ Number size ∷ stamp_parts stamp
 call_parts (Scan dir) = Keyword (codes "scan") ∷ Number dir ∷ []
 call_parts (Grab dir name count) = Keyword (codes "grab") ∷ Number dir ∷ Named name ∷ Number count ∷ []
 call_parts (Load dir rows) = Keyword (codes "load") ∷ Number dir ∷ Number (length rows) ∷ []
@@ -82,9 +86,9 @@ line_parts lines.Skipped = []
 line_parts (lines.Call client call) = Keyword (codes "call") ∷ Number client ∷ call_parts call
 line_parts (lines.Issue client call) = Keyword (codes "issue") ∷ Number client ∷ call_parts call
 line_parts (lines.Retry client) = Keyword (codes "retry") ∷ Number client ∷ []
-line_parts (lines.Deliver place) = Keyword (codes "deliver") ∷ Number place ∷ []
+line_parts (lines.Deliver message) = Keyword (codes "deliver") ∷ Number message ∷ []
 line_parts (lines.Batch server places) = Keyword (codes "batch") ∷ Number server ∷ number_parts places
-line_parts (lines.Take client place) = Keyword (codes "take") ∷ Number client ∷ Number place ∷ []
+line_parts (lines.Take client message) = Keyword (codes "take") ∷ Number client ∷ Number message ∷ []
 line_parts lines.Settle = Keyword (codes "settle") ∷ []
 line_parts (lines.Remind server) = Keyword (codes "remind") ∷ Number server ∷ []
 line_parts (lines.Tick by) = Keyword (codes "tick") ∷ Number by ∷ []
@@ -92,7 +96,8 @@ line_parts (lines.Fuse server calls) = Keyword (codes "fuse") ∷ Number server 
 line_parts (lines.Stop server) = Keyword (codes "stop") ∷ Number server ∷ []
 line_parts (lines.Restart server) = Keyword (codes "restart") ∷ Number server ∷ []
 line_parts (lines.Walk client path) = Keyword (codes "walk") ∷ Number client ∷ Raw path ∷ []
-line_parts (lines.Bulk client dir name json) = Keyword (codes "bulk") ∷ Number client ∷ Number dir ∷ Named name ∷ Rest json ∷ []
+line_parts (lines.Bulk client dir name json) =
+    Keyword (codes "bulk") ∷ Number client ∷ Number dir ∷ Named name ∷ Rest json ∷ []
 line_parts (lines.Rmdir client dir name) = Keyword (codes "rmdir") ∷ Number client ∷ Number dir ∷ Named name ∷ []
 line_parts (lines.Feed server) = Keyword (codes "feed") ∷ Number server ∷ []
 line_parts (lines.Promote server) = Keyword (codes "promote") ∷ Number server ∷ []
@@ -158,9 +163,9 @@ IsWithin setup lines.Skipped = Unit {0}
 IsWithin setup (lines.Call client call) = IsClient setup client × IsAsked call
 IsWithin setup (lines.Issue client call) = IsClient setup client × IsAsked call
 IsWithin setup (lines.Retry client) = IsClient setup client
-IsWithin setup (lines.Deliver place) = Unit {0}
+IsWithin setup (lines.Deliver message) = Unit {0}
 IsWithin setup (lines.Batch server places) = IsServer setup server × (1 ≤ length places) × (length places ≤ BATCH_MOST)
-IsWithin setup (lines.Take client place) = IsClient setup client
+IsWithin setup (lines.Take client message) = IsClient setup client
 IsWithin setup lines.Settle = Unit {0}
 IsWithin setup (lines.Remind server) = IsServer setup server
 IsWithin setup (lines.Tick by) = (1 ≤ by) × (by ≤ TICK_MOST)
@@ -182,4 +187,5 @@ IsComment (byte ∷ bytes) = byte ≡ 35
 
 -- the bytes are a line that says this: a comment is skipped, and else each piece says its part
 abbrev pub IsLine : Setup → List ℕ → Line → Type 0
-IsLine setup bytes line = (IsComment bytes × (line ≡ lines.Skipped)) ⊎ (AreSaid bytes (line_parts line) × IsWithin setup line)
+IsLine setup bytes line =
+    (IsComment bytes × (line ≡ lines.Skipped)) ⊎ (AreSaid bytes (line_parts line) × IsWithin setup line)

@@ -10,9 +10,11 @@ pub record IsHexOf (high low byte : ℕ) : Type 0 where
 
 -- the text spells the byte: it is that byte, which is no `%`, or `%` and its two digits
 abbrev pub SpellsByte : List ℕ → ℕ → Type 0
-SpellsByte text byte = ((text ≡ byte ∷ []) × (byte ≢ 37)) ⊎ ((high : ℕ) × (low : ℕ) × (text ≡ 37 ∷ high ∷ low ∷ []) × IsHexOf high low byte)
+SpellsByte text byte = ((text ≡ byte ∷ []) × (byte ≢ 37))
+    ⊎ ((high : ℕ) × (low : ℕ) × (text ≡ 37 ∷ high ∷ low ∷ []) × IsHexOf high low byte)
 
 -- the text spells the bytes, one after another
 abbrev pub SpellsName : List ℕ → List ℕ → Type 0
 SpellsName text [] = text ≡ []
-SpellsName text (byte ∷ bytes) = (front : List ℕ) × (rest : List ℕ) × (text ≡ front ++ rest) × SpellsByte front byte × SpellsName rest bytes
+SpellsName text (byte ∷ bytes) =
+    (front : List ℕ) × (rest : List ℕ) × (text ≡ front ++ rest) × SpellsByte front byte × SpellsName rest bytes

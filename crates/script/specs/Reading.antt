@@ -1,5 +1,6 @@
 -- Reading from left to right: what the first bytes of bytes say and the bytes behind them, where they say it.
-use Rattle.std.specs.Prelude.{ℕ, zero, suc, length, is_some, not, ◌+◌, ◌*◌, ◌-◌, ◌^◌, List, [], ◌∷◌, Option, Some, None, Bool, true, false, nat_le, nat_lt, nat_eq, ◌==◌, ◌&&◌, if◌then◌else◌, codes, decimal}
+use Rattle.std.specs.Prelude.{ℕ, zero, suc, length, is_some, not, ◌+◌, ◌*◌, ◌-◌, ◌^◌, List, [], ◌∷◌, Option, Some, None}
+use Rattle.std.specs.Prelude.{Bool, true, false, nat_le, nat_lt, nat_eq, ◌==◌, ◌&&◌, if◌then◌else◌, codes, decimal}
 use Rattle.std.specs.List.{find}
 use Rattle.std.specs.Cmp.Lexicographic.{pointwise}
 use Rattle.std.specs.Char.{digit_value}
@@ -28,7 +29,8 @@ None >>= f = None
 
 -- the number that a word spells: the value of its digits, where these are its spelling
 unfoldable pub number_of : List ℕ → Option ℕ
-number_of word = if nat_lt (digits_value 10 word) (2 ^ 64) && pointwise nat_eq (decimal (digits_value 10 word)) word then Some (digits_value 10 word) else None
+number_of word = if nat_lt (digits_value 10 word) (2 ^ 64) && pointwise nat_eq (decimal (digits_value 10 word)) word
+    then Some (digits_value 10 word) else None
 
 -- a byte in front of the bytes that the rest of a word spells
 abbrev pub onto : ℕ → Option (List ℕ) → Option (List ℕ)
@@ -37,14 +39,16 @@ onto byte (Some bytes) = Some (byte ∷ bytes)
 
 -- the byte of two hexadecimal digits
 abbrev pub hex_byte : ℕ → ℕ → Option ℕ
-hex_byte high low = if nat_lt (digit_value high) 16 && nat_lt (digit_value low) 16 then Some (16 * digit_value high + digit_value low) else None
+hex_byte high low = if nat_lt (digit_value high) 16 && nat_lt (digit_value low) 16
+    then Some (16 * digit_value high + digit_value low) else None
 
 -- the bytes that a word spells, where each of its escapes is whole
 unfoldable pub unescaped : List ℕ → Option (List ℕ)
 unescaped [] = Some []
 unescaped (byte ∷ []) = if byte == 37 then None else Some (byte ∷ [])
 unescaped (byte ∷ high ∷ []) = if byte == 37 then None else onto byte (unescaped (high ∷ []))
-unescaped (byte ∷ high ∷ low ∷ rest) = if byte == 37 then hex_byte high low >>= (λ b. onto b (unescaped rest)) else onto byte (unescaped (high ∷ low ∷ rest))
+unescaped (byte ∷ high ∷ low ∷ rest) = if byte == 37 then hex_byte high low >>= (λ b. onto b (unescaped rest))
+    else onto byte (unescaped (high ∷ low ∷ rest))
 
 -- these bytes, where they are a name
 abbrev pub checked_name : List ℕ → Option (List ℕ)
@@ -84,7 +88,9 @@ call_verb_text asked.Setattr = codes "setattr"
 call_verb_text asked.Scan = codes "scan"
 
 abbrev pub each_verb : List Verb
-each_verb = verbs.Call ∷ verbs.Issue ∷ verbs.Retry ∷ verbs.Deliver ∷ verbs.Batch ∷ verbs.Take ∷ verbs.Settle ∷ verbs.Remind ∷ verbs.Tick ∷ verbs.Fuse ∷ verbs.Stop ∷ verbs.Restart ∷ verbs.Walk ∷ verbs.Bulk ∷ verbs.Rmdir ∷ verbs.Feed ∷ verbs.Promote ∷ []
+each_verb = verbs.Call ∷ verbs.Issue ∷ verbs.Retry ∷ verbs.Deliver ∷ verbs.Batch ∷ verbs.Take ∷ verbs.Settle
+    ∷ verbs.Remind ∷ verbs.Tick ∷ verbs.Fuse ∷ verbs.Stop ∷ verbs.Restart ∷ verbs.Walk ∷ verbs.Bulk ∷ verbs.Rmdir
+    ∷ verbs.Feed ∷ verbs.Promote ∷ []
 
 abbrev pub each_call_verb : List CallVerb
 each_call_verb = asked.Create ∷ asked.Mkdir ∷ asked.Remove ∷ asked.Lookup ∷ asked.Setattr ∷ asked.Scan ∷ []
@@ -203,7 +209,8 @@ asked_at setup bytes = do
 -- as many numbers as there are, but at most so many
 unfoldable pub numbers_at : ℕ → List ℕ → Option (List ℕ × List ℕ)
 numbers_at zero bytes = Some ([], bytes)
-numbers_at (suc most) bytes = if is_end bytes then Some ([], bytes) else (number_at bytes >>= (λ number. numbers_at most number.1 >>= (λ more. Some (number.0 ∷ more.0, more.1))))
+numbers_at (suc most) bytes = if is_end bytes then Some ([], bytes)
+    else (number_at bytes >>= (λ number. numbers_at most number.1 >>= (λ more. Some (number.0 ∷ more.0, more.1))))
 
 -- ---- a line, behind its first word
 
@@ -224,8 +231,8 @@ retry_line setup bytes = do
 
 unfoldable pub deliver_line : List ℕ → Option (Line × List ℕ)
 deliver_line bytes = do
-  place ← number_at bytes
-  Some (lines.Deliver place.0, place.1)
+  message ← number_at bytes
+  Some (lines.Deliver message.0, message.1)
 
 -- from 1 to `BATCH_MOST` places
 unfoldable pub batch_line : Setup → List ℕ → Option (Line × List ℕ)
@@ -237,8 +244,8 @@ batch_line setup bytes = do
 unfoldable pub take_line : Setup → List ℕ → Option (Line × List ℕ)
 take_line setup bytes = do
   client ← client_at setup bytes
-  place ← number_at client.1
-  Some (lines.Take client.0 place.0, place.1)
+  message ← number_at client.1
+  Some (lines.Take client.0 message.0, message.1)
 
 unfoldable pub remind_line : Setup → List ℕ → Option (Line × List ℕ)
 remind_line setup bytes = do

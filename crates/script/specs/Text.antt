@@ -1,8 +1,11 @@
 -- How lines are printed: one space between words, each number and each name in its one printed form.
-use Rattle.std.specs.Prelude.{ℕ, ◌<◌, ◌^◌, ◌/◌, ◌%◌, List, [], ◌∷◌, Bool, ◌==◌, ◌&&◌, not, nat_le, if◌then◌else◌, true, false, map, decimal, IsTrue}
+use Rattle.std.specs.Prelude.{ℕ, ◌<◌, ◌^◌, ◌/◌, ◌%◌, List, [], ◌∷◌, ◌++◌, Option, Some, None, Bool, ◌==◌, ◌&&◌, not}
+use Rattle.std.specs.Prelude.{nat_le, if◌then◌else◌, true}
+use Rattle.std.specs.Prelude.{false, map, decimal, IsTrue}
 use Rattle.std.specs.List.{flat_map, join_with_byte, list_all, AllByRecursion}
 use Rattle.std.specs.Fmt.{digit_glyph}
 use Rattle.mds_base.specs.Name.{is_name}
+use Rattle.mds_base.specs.declared.attr.Stamp.{Stamp}
 use Rattle.mds_base.specs.declared.call.Call.{Call}
 use Rattle.script.specs.Words.{is_blank}
 use Rattle.script.specs.Grammar.{Part, Keyword, Number, Named, Raw, Rest, call_parts, line_parts}
@@ -14,7 +17,8 @@ is_plain_byte byte = (nat_le 33 byte && nat_le byte 126) && not (byte == 37)
 
 -- a byte of a name: itself, or `%` and two hexadecimal digits in upper case
 abbrev pub byte_text : ℕ → List ℕ
-byte_text byte = if is_plain_byte byte then byte ∷ [] else 37 ∷ digit_glyph true (byte / 16) ∷ digit_glyph true (byte % 16) ∷ []
+byte_text byte =
+    if is_plain_byte byte then byte ∷ [] else 37 ∷ digit_glyph true (byte / 16) ∷ digit_glyph true (byte % 16) ∷ []
 
 abbrev pub name_text : List ℕ → List ℕ
 name_text name = flat_map byte_text name
@@ -29,6 +33,11 @@ part_text (Rest text) = text
 -- one space between the parts
 abbrev pub parts_text : List Part → List ℕ
 parts_text parts = join_with_byte 32 (map part_text parts)
+
+-- an owner and a time behind other words, where there are any
+abbrev pub stamp_text : Option Stamp → List ℕ
+stamp_text None = []
+stamp_text (Some stamp) = 32 ∷ decimal stamp.owner ++ 32 ∷ decimal stamp.mtime
 
 abbrev pub line_text : Line → List ℕ
 line_text line = parts_text (line_parts line)

@@ -1,5 +1,6 @@
 -- The words of a line: what stands between its blanks.
-use Rattle.std.specs.Prelude.{ℕ, List, [], ◌∷◌, Option, Some, None, Bool, true, not, ◌==◌, ◌||◌, if◌then◌else◌, length, take, drop}
+use Rattle.std.specs.Prelude.{ℕ, List, [], ◌∷◌, Option, Some, None, Bool, true, not, ◌==◌, ◌||◌, if◌then◌else◌, length}
+use Rattle.std.specs.Prelude.{take, drop}
 use Rattle.std.specs.List.{take_while}
 
 -- a space or a tab
@@ -20,7 +21,8 @@ trimmed bytes = drop (blanks bytes) bytes
 -- the word with which a text begins and what is behind it, where there is a text
 abbrev pub front_word : List ℕ → Option (List ℕ × List ℕ)
 front_word [] = None
-front_word (byte ∷ bytes) = Some (take (letters (byte ∷ bytes)) (byte ∷ bytes), drop (letters (byte ∷ bytes)) (byte ∷ bytes))
+front_word (byte ∷ bytes) =
+    Some (take (letters (byte ∷ bytes)) (byte ∷ bytes), drop (letters (byte ∷ bytes)) (byte ∷ bytes))
 
 -- a whole text, where there is one
 abbrev pub whole_text : List ℕ → Option (List ℕ × List ℕ)
@@ -47,7 +49,8 @@ onto_first byte (word ∷ words) = (byte ∷ word) ∷ words
 
 -- a byte in front of bytes that have these words, whether or not it ends a word
 abbrev pub with_byte : ℕ → Bool → List (List ℕ) → List (List ℕ)
-with_byte byte is_last words = if is_blank byte then words else if is_last then (byte ∷ []) ∷ words else onto_first byte words
+with_byte byte is_last words =
+    if is_blank byte then words else if is_last then (byte ∷ []) ∷ words else onto_first byte words
 
 -- the words, in their order
 unfoldable pub words_of : List ℕ → List (List ℕ)

@@ -19,7 +19,8 @@ pub(crate) fn asked(
     setup: &Setup,
 ) -> Result<(u32, Call), LineFault>
     ensures gives { Gives (λ x. (x.0, x.1, unread.new)) result (asked_at setup.now unread.old) }
-    ensures memory { OnMemory result (IfSome (asked_at setup.now unread.old) (λ x. IsTrue (list_any is_kept (call_parts x.1)))) }
+    ensures memory { OnMemory result
+        (IfSome (asked_at setup.now unread.old) (λ x. IsTrue (list_any is_kept (call_parts x.1)))) }
 {
     let client = unread.client(setup)?;
     let call = call(alloc, unread)?;

@@ -1,5 +1,6 @@
 //! Reads a word as a name.
-ghost use Rattle.std.specs.Prelude.{◌≡◌, ◌<◌, length, MatchOption};
+ghost use Rattle.std.specs.Prelude.{◌≡◌, ◌==◌, ◌<◌, length, MatchOption};
+ghost use Rattle.std.specs.List.{list_any};
 ghost use Rattle.script.specs.Answers.{Gives};
 ghost use Rattle.script.specs.Reading.{onto, hex_byte, unescaped, checked_name, name_of};
 
@@ -13,11 +14,18 @@ use std::alloc::Global;
 pub fn name_of(alloc: Global, word: &[u8]) -> Result<Name, LineFault>
     ensures { Gives (λ name. name) result (name_of word.now) }
 {
-    if !word.contains(&b'%') {
+    if !has_escape(word) {
         return checked_name(alloc, word);
     }
     let bytes = unescaped(alloc, word)?;
     checked_name(alloc, bytes.as_slice())
+}
+
+/// Whether a word has an escape.
+fn has_escape(word: &[u8]) -> bool
+    ensures { result ≡ list_any (λ byte. byte == 37) word.now }
+{
+    word.iter().copied().any(|byte| byte == b'%')
 }
 
 fn checked_name(alloc: Global, bytes: &[u8]) -> Result<Name, LineFault>
@@ -49,7 +57,8 @@ fn unescaped(alloc: Global, word: &[u8]) -> Result<Vec<u8>, LineFault>
 /// The byte that the front of a word spells, and what follows it.
 fn first_byte(word: &[u8]) -> Option<(u8, &[u8])>
     requires { 0 < length word.now }
-    ensures { MatchOption result (unescaped word.now ≡ None) (λ p. (unescaped word.now ≡ onto p.0 (unescaped p.1.now)) × (length p.1.now < length word.now)) }
+    ensures { MatchOption result (unescaped word.now ≡ None)
+        (λ p. (unescaped word.now ≡ onto p.0 (unescaped p.1.now)) × (length p.1.now < length word.now)) }
 {
     let (byte, rest) = word.split_first()?;
     if *byte != b'%' {

@@ -25,8 +25,8 @@ pub enum Line {
     },
     /// A message is served.
     Deliver {
-        /// Its place in the list of all sent messages, counted from 0.
-        place: u64,
+        /// Its number in the list of all sent messages, counted from 0.
+        message: u64,
     },
     /// Messages are served together, in this order.
     Batch {
@@ -39,8 +39,8 @@ pub enum Line {
     Take {
         /// From 1 to the number of clients.
         client: u32,
-        /// The message's place in the list of all sent messages, counted from 0.
-        place: u64,
+        /// The message's number in the list of all sent messages, counted from 0.
+        message: u64,
     },
     /// All messages that may be served are served, the first one first.
     Settle,

@@ -19,7 +19,8 @@ pub(crate) fn number_of(word: &[u8]) -> Option<u64>
 
 /// Whether a word is some bytes, without a leading zero but in `0`.
 fn begins_as_number(word: &[u8]) -> bool
-    ensures { let P = (0 < length word.now) × (slice_index word.now 0 ≡ 48 → length word.now ≡ 1) in MatchBool result P (P → ⊥) }
+    ensures { let P =
+        (0 < length word.now) × (slice_index word.now 0 ≡ 48 → length word.now ≡ 1) in MatchBool result P (P → ⊥) }
 {
     match word {
         [] => false,

@@ -7,7 +7,9 @@ ghost use Rattle.script.specs.declared.line.Line.{Line};
 ghost use Rattle.script.specs.Grammar.{IsSpelled, Number, IsNumeral, IsComment, IsLine, IsWithin, keeps};
 ghost use Rattle.script.specs.Text.{line_text, ArePrinted};
 ghost use Rattle.script.specs.Answers.{Finds, Gives, OnMemory, IsLineOrMemory};
-ghost use Rattle.script.specs.Reading.{numbers_at, call_line, issue_line, retry_line, deliver_line, batch_line, take_line, remind_line, tick_line, fuse_line, stop_line, restart_line, walk_line, bulk_line, rmdir_line, feed_line, promote_line, line_after, line_of};
+ghost use Rattle.script.specs.Reading.{numbers_at, call_line, issue_line, retry_line, deliver_line, batch_line};
+ghost use Rattle.script.specs.Reading.{take_line, remind_line, tick_line, fuse_line, stop_line, restart_line};
+ghost use Rattle.script.specs.Reading.{walk_line, bulk_line, rmdir_line, feed_line, promote_line, line_after, line_of};
 
 use crate::asking::asked;
 use crate::fault::{LineFault, Outside};
@@ -125,8 +127,8 @@ fn retry_line(unread: &mut Unread<'_>, setup: &Setup) -> Result<Line, Outside>
 fn deliver_line(unread: &mut Unread<'_>) -> Result<Line, Outside>
     ensures { Finds (λ line. (line, unread.new)) result (deliver_line unread.old) }
 {
-    let place = unread.number()?;
-    Ok(Line::Deliver { place })
+    let message = unread.number()?;
+    Ok(Line::Deliver { message })
 }
 
 #[tactic(auto, unfolding(crate::specs::Reading::batch_line))]
@@ -160,8 +162,8 @@ fn take_line(unread: &mut Unread<'_>, setup: &Setup) -> Result<Line, Outside>
     ensures { Finds (λ line. (line, unread.new)) result (take_line setup.now unread.old) }
 {
     let client = unread.client(setup)?;
-    let place = unread.number()?;
-    Ok(Line::Take { client, place })
+    let message = unread.number()?;
+    Ok(Line::Take { client, message })
 }
 
 #[tactic(auto, unfolding(crate::specs::Reading::remind_line))]
@@ -257,7 +259,10 @@ fn promote_line(unread: &mut Unread<'_>, setup: &Setup) -> Result<Line, Outside>
 /// What holds of all lines: bytes say one line, a line that is printed is read back, and the words that are numbers
 /// are those of 1 to 20 digits without a leading zero but in `0`.
 pub fn laws_of_lines()
-    ensures one { (setup : Setup) → (bytes : List ℕ) → (a b : Line) → IsLine setup bytes a → IsLine setup bytes b → a ≡ b }
-    ensures printed { (setup : Setup) → (line : Line) → IsWithin setup line → ArePrinted line → IsLine setup (line_text line) line }
-    ensures numbers { (word : List ℕ) → (number : ℕ) → IsSpelled word (Number number) ↔ (IsNumeral word × (digits_value 10 word ≡ number)) }
+    ensures one { (setup : Setup) → (bytes : List ℕ) → (a b : Line) → IsLine setup bytes a → IsLine setup bytes b
+        → a ≡ b }
+    ensures printed { (setup : Setup) → (line : Line) → IsWithin setup line → ArePrinted line
+        → IsLine setup (line_text line) line }
+    ensures numbers { (word : List ℕ) → (number : ℕ)
+        → IsSpelled word (Number number) ↔ (IsNumeral word × (digits_value 10 word ≡ number)) }
 {}

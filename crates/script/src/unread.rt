@@ -2,7 +2,8 @@
 ghost use Rattle.std.specs.Prelude.{◌≡◌, ◌≤◌, IfOk};
 ghost use Rattle.script.specs.Words.{word_at, rest_at};
 ghost use Rattle.script.specs.Answers.{Finds, Gives};
-ghost use Rattle.script.specs.Reading.{is_end, number_at, number_within, server_at, client_at, name_at, directory_at, place_at};
+ghost use Rattle.script.specs.Reading.{is_end, number_at, number_within, server_at, client_at, name_at, directory_at};
+ghost use Rattle.script.specs.Reading.{place_at};
 
 use crate::byte_list::ByteList;
 use crate::escape::name_of;

@@ -1,5 +1,6 @@
 //! The words that a line or a call may begin with.
-ghost use Rattle.std.specs.Prelude.{◌≡◌};
+ghost use Rattle.std.specs.Prelude.{◌≡◌, nat_eq};
+ghost use Rattle.std.specs.Cmp.Lexicographic.{pointwise};
 ghost use Rattle.script.specs.Reading.{verb_text, call_verb_text, verb_of, call_verb_of};
 
 /// What a line asks for.
@@ -75,7 +76,10 @@ impl Verb {
 pub(crate) fn verb_of(word: &[u8]) -> Option<Verb>
     ensures { result ≡ verb_of word.now }
 {
-    VERBS.iter().copied().find(|verb| verb.text() == word)
+    VERBS
+        .iter()
+        .copied()
+        .find(|verb| are_same(verb.text(), word))
 }
 
 /// What a call asks for.
@@ -118,5 +122,23 @@ impl CallVerb {
 pub(crate) fn call_verb_of(word: &[u8]) -> Option<CallVerb>
     ensures { result ≡ call_verb_of word.now }
 {
-    CALL_VERBS.iter().copied().find(|verb| verb.text() == word)
+    CALL_VERBS
+        .iter()
+        .copied()
+        .find(|verb| are_same(verb.text(), word))
+}
+
+/// Whether two words are one. They are short and mostly differ in length or soon, so they are compared byte by byte.
+fn are_same(a: &[u8], b: &[u8]) -> bool
+    ensures { result ≡ pointwise nat_eq a.now b.now }
+{
+    if a.len() != b.len() {
+        return false;
+    }
+    for at in 0..a.len() {
+        if a[at] != b[at] {
+            return false;
+        }
+    }
+    true
 }
