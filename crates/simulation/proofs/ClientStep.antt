@@ -11,6 +11,7 @@ use Rattle.mds_base.specs.declared.limits.TheConstants.{CALLS, EVENTS}
 use Rattle.mds_base.specs.declared.call.Call.{Call}
 use Rattle.mds_out.specs.Disk.{Image, Contents}
 use Rattle.records.specs.declared.msg.Msg.{Msg}
+use Rattle.message_store.specs.declared.made.Made.{Made}
 use Rattle.client_core.specs.declared.client.Pending.{Pending}
 use Rattle.client_core.specs.declared.taken.Taken.{Taken}
 use Rattle.client_core.specs.Clients.{ClientV, HasPending, HasRoom, SendsAgain, request_of, issued, issue_msg, resent, resend_msg}
@@ -18,14 +19,15 @@ use Rattle.client_core.specs.Taking as taking
 use Rattle.node_core.proofs.Calls.{well_made_fits}
 use Rattle.node_store.specs.Serve.{IsWellMade}
 use Rattle.world.specs.declared.event.Event.{Event}
+use Rattle.world.specs.Events.{is_for_client}
 use Rattle.mds_base.proofs.Grow.{get_last, within}
 use Rattle.simulation.specs.Calls.{IsRequestAt, IsSend, taken_of}
 use Rattle.simulation.specs.Moves.{sent_by, issued_as, issued_by, resent_open, resent_as, resent_by, noting, taken_as, taken_by}
 use Rattle.simulation.specs.Ranges.{IsOpenCall, IsOpen, IsSeat, IsSent, IsRanged, InRange}
 use Rattle.simulation.specs.Shows.{SimulationV, Happens, waiting_cmp, client_at, server_for, is_request_of, is_idle, is_busy}
-use Rattle.simulation.proofs.Ranged.{seat_more, issued_seat, resent_seat, taken_seat, request_sent, calls_left, ranged_client, ranged_sent, room_in, in_range}
-use Rattle.simulation.proofs.Sending.{HasNumbers}
-use Rattle.simulation.proofs.Standing.{at_place, read_at}
+use Rattle.simulation.proofs.RangesKept.{seat_more, issued_seat, resent_seat, taken_seat, request_sent, calls_left, ranged_client, ranged_sent, room_in, in_range}
+use Rattle.simulation.proofs.IssueRun.{HasNumbers}
+use Rattle.simulation.proofs.ServersShown.{at_place, read_at}
 
 -- ---- the client of a number
 
@@ -172,40 +174,40 @@ pub again : {client next : ClientV} {msg : Msg} (pending : Pending) → client.p
 again {client = client} {next = next} {msg = msg} pending busy sends = subst (SendsAgain client next msg) busy sends
 
 -- the simulation then, whatever the send gave
-abbrev pub with_sent : {X : Type 0} → SimulationV X → ℕ → ClientV → List Msg → set.FinSet waiting_cmp → SimulationV X
-with_sent was number next sent waiting = record was { count = was.count + 1; clients = slice_set was.clients (number - 1) next; sent = sent; waiting = waiting }
+abbrev pub with_sent : {X : Type 0} → SimulationV X → ℕ → ClientV → List Msg → set.FinSet waiting_cmp → List Made → SimulationV X
+with_sent was number next sent waiting made = record was { count = was.count + 1; clients = slice_set was.clients (number - 1) next; sent = sent; waiting = waiting; made = made }
 
 module _ {X : Type 0} {was old : SimulationV X} (same : was ≡ old) {number : ℕ} {next : ClientV} {msg : Msg} (s : IsSending was number next msg) where
   pub send_ranged : (result : Result ℕ AllocError) (sent' : List Msg) (waiting' : set.FinSet waiting_cmp) → IsSend result was.sent sent' was.waiting waiting' msg
       → IsRanged was.setup was.moment (was.count + 1) was.stores (slice_set was.clients (number - 1) next) sent'
-  send_ranged (Ok place) sent' waiting' did = subst (IsRanged was.setup was.moment (was.count + 1) was.stores (slice_set was.clients (number - 1) next)) (sym did.stands) (ranged_sent s.ranges s.room (number - 1) next msg s.seat' s.good)
+  send_ranged (Ok message) sent' waiting' did = subst (IsRanged was.setup was.moment (was.count + 1) was.stores (slice_set was.clients (number - 1) next)) (sym did.stands) (ranged_sent s.ranges s.room (number - 1) next msg s.seat' s.good)
   send_ranged (Err e) sent' waiting' did = subst (IsRanged was.setup was.moment (was.count + 1) was.stores (slice_set was.clients (number - 1) next)) (sym did.err) (ranged_client s.ranges s.room (number - 1) next s.seat')
 
   pub send_place : (result : Result ℕ AllocError) (sent' : List Msg) (waiting' : set.FinSet waiting_cmp) → IsSend result was.sent sent' was.waiting waiting' msg
-      → IfOk result (λ place. (place ≡ length old.sent) × (length sent' ≡ place + 1))
-  send_place (Ok place) sent' waiting' did = (
-    did.place ∙ ap (λ (v : SimulationV X). length v.sent) same,
-    ap length did.stands ∙ length-append was.sent (msg ∷ []) ∙ ap (λ n. n + 1) (sym did.place),
+      → IfOk result (λ message. (message ≡ length old.sent) × (length sent' ≡ message + 1))
+  send_place (Ok message) sent' waiting' did = (
+    did.message ∙ ap (λ (v : SimulationV X). length v.sent) same,
+    ap length did.stands ∙ length-append was.sent (msg ∷ []) ∙ ap (λ n. n + 1) (sym did.message),
   )
   send_place (Err e) sent' waiting' did = tt
 
-  pub send_request : (result : Result ℕ AllocError) (sent' : List Msg) (waiting' : set.FinSet waiting_cmp) → IsSend result was.sent sent' was.waiting waiting' msg
-      → IfOk result (λ place. IsRequestAt (with_sent was number next sent' waiting') number place)
-  send_request (Ok place) sent' waiting' did =
-      let here : slice_get sent' place ≡ Some msg = ap (λ l. slice_get l place) did.stands ∙ ap (slice_get (was.sent ++ msg ∷ [])) did.place ∙ get_last was.sent msg in
+  pub send_request : (result : Result ℕ AllocError) (sent' : List Msg) (waiting' : set.FinSet waiting_cmp) (made' : List Made) → IsSend result was.sent sent' was.waiting waiting' msg
+      → IfOk result (λ message. IsRequestAt (with_sent was number next sent' waiting' made') number message)
+  send_request (Ok message) sent' waiting' made' did =
+      let here : slice_get sent' message ≡ Some msg = ap (λ l. slice_get l message) did.stands ∙ ap (slice_get (was.sent ++ msg ∷ [])) did.message ∙ get_last was.sent msg in
       record {
         asks = ap (is_request_of number) here ∙ s.asks;
         server = s.server;
         is = ap server_for here ∙ s.is;
         there = subst (λ o. MatchOption o (Unit {0}) (λ server. server < was.setup.servers)) s.is s.good.there;
       }
-  send_request (Err e) sent' waiting' did = tt
+  send_request (Err e) sent' waiting' made' did = tt
 
-  pub send_after : (result : Result ℕ AllocError) (sent' : List Msg) (waiting' : set.FinSet waiting_cmp) → IsSend result was.sent sent' was.waiting waiting' msg → (f : SimulationV X → SimulationV X) → sent_by was number next msg ≡ f was
-      → OnOk result (with_sent was number next sent' waiting' ≡ f old)
-  send_after (Ok place) sent' waiting' did f is =
-      ap (λ l. with_sent was number next l waiting') did.stands ∙ ap (with_sent was number next (was.sent ++ msg ∷ [])) did.waits ∙ is ∙ ap f same
-  send_after (Err e) sent' waiting' did f is = tt
+  pub send_after : (result : Result ℕ AllocError) (sent' : List Msg) (waiting' : set.FinSet waiting_cmp) (made' : List Made) → IsSend result was.sent sent' was.waiting waiting' msg → made' ≡ was.made
+      → (f : SimulationV X → SimulationV X) → sent_by was number next msg ≡ f was → OnOk result (with_sent was number next sent' waiting' made' ≡ f old)
+  send_after (Ok message) sent' waiting' made' did kept f is =
+      ap (with_sent was number next sent' waiting') kept ∙ ap (λ l. with_sent was number next l waiting' was.made) did.stands ∙ ap (λ w. with_sent was number next (was.sent ++ msg ∷ []) w was.made) did.waits ∙ is ∙ ap f same
+  send_after (Err e) sent' waiting' made' did kept f is = tt
 
 -- what a call that was answered says, by the function that it is
 pub happens_after : {X : Type 0} {T E : Type 0} (seen : X → Contents) (images : X → Image → Type 0) (old new next : SimulationV X) (event : Event) (result : Result T E) → OnOk result (new ≡ next) → Happens seen images old next event → OnOk result (Happens seen images old new event)
@@ -214,22 +216,31 @@ happens_after seen images old new next event (Err e) after happens = tt
 
 -- ---- a client takes a message
 
+for_client : (o : Option Msg) (client : ℕ) → is_for_client client o ≡ true → (msg : Msg) × (o ≡ Some msg)
+for_client None client meant = cc
+for_client (Some msg) client meant = (msg, refl)
+
+-- the message that is for a client was sent
+pub message_for : {X : Type 0} {was old : SimulationV X} → was ≡ old → (client message : ℕ) → is_for_client client (slice_get old.sent message) ≡ true → (msg : Msg) × (slice_get was.sent message ≡ Some msg)
+message_for {X = X} {was = was} same client message meant =
+    for_client (slice_get was.sent message) client (subst (λ (v : SimulationV X). is_for_client client (slice_get v.sent message) ≡ true) (sym same) meant)
+
 -- the simulation then
 abbrev pub with_taken : {X : Type 0} → SimulationV X → ℕ → ClientV → set.FinSet nat_cmp → SimulationV X
 with_taken was number next places = record was { count = was.count + 1; clients = slice_set was.clients (number - 1) next; taken = places }
 
-module _ {X : Type 0} {was old : SimulationV X} (same : was ≡ old) {number : ℕ} {client : ClientV} (at : IsCalled is_some was number client) (place : ℕ) (msg : Msg) (there : slice_get was.sent place ≡ Some msg) (next : ClientV) (taken : Taken) (took : taking.IsTaken (taking.take client msg) taken next) where
+module _ {X : Type 0} {was old : SimulationV X} (same : was ≡ old) {number : ℕ} {client : ClientV} (at : IsCalled is_some was number client) (message : ℕ) (msg : Msg) (there : slice_get was.sent message ≡ Some msg) (next : ClientV) (taken : Taken) (took : taking.IsTaken (taking.take client msg) taken next) where
   pub took_ranged : IsRanged was.setup was.moment (was.count + 1) was.stores (slice_set was.clients (number - 1) next) was.sent
   took_ranged = ranged_client at.ranges at.room (number - 1) next (subst (IsSeat was.setup (was.count + 1) (number - 1)) (sym took.client') (taken_seat was.setup was.count (number - 1) client (seat at) msg))
 
-  pub took_said : taken_of (client_at old.clients number) (slice_get old.sent place) ≡ Some taken
+  pub took_said : taken_of (client_at old.clients number) (slice_get old.sent message) ≡ Some taken
   took_said =
-      subst (λ (v : SimulationV X). taken_of (client_at v.clients number) (slice_get v.sent place) ≡ Some taken) same
-      (ap (λ o. taken_of o (slice_get was.sent place)) at.is ∙ ap (taken_of (Some client)) there ∙ ap Some (sym took.taken'))
+      subst (λ (v : SimulationV X). taken_of (client_at v.clients number) (slice_get v.sent message) ≡ Some taken) same
+      (ap (λ o. taken_of o (slice_get was.sent message)) at.is ∙ ap (taken_of (Some client)) there ∙ ap Some (sym took.taken'))
 
-  pub took_after : (places : set.FinSet nat_cmp) → places ≡ noting was.taken taken place → with_taken was number next places ≡ taken_by old number place
+  pub took_after : (places : set.FinSet nat_cmp) → places ≡ noting was.taken taken message → with_taken was number next places ≡ taken_by old number message
   took_after places noted =
-      ap (with_taken was number next) (noted ∙ ap (λ t. noting was.taken t place) took.taken')
-      ∙ ap (λ c. with_taken was number c (noting was.taken (taking.take client msg).taken place)) took.client'
-      ∙ sym (ap (λ o. taken_as was number place o (slice_get was.sent place)) at.is ∙ ap (taken_as was number place (Some client)) there)
-      ∙ ap (λ v. taken_by v number place) same
+      ap (with_taken was number next) (noted ∙ ap (λ t. noting was.taken t message) took.taken')
+      ∙ ap (λ c. with_taken was number c (noting was.taken (taking.take client msg).taken message)) took.client'
+      ∙ sym (ap (λ o. taken_as was number message o (slice_get was.sent message)) at.is ∙ ap (taken_as was number message (Some client)) there)
+      ∙ ap (λ v. taken_by v number message) same

@@ -1,12 +1,11 @@
 pub mod Calls
 pub mod Entries
-pub mod Fuses
-pub mod Licences
+pub mod Payments
 pub mod Moves
 pub mod Openings
 pub mod Places
 pub mod Ranges
 pub mod Runs
 pub mod Shows
-pub mod Starts
+pub mod Waits
 pub mod Stores

@@ -14,7 +14,7 @@ use Rattle.client_core.specs.Taking.{Took, take}
 use Rattle.mds_out.specs.Fused.{Fused}
 use Rattle.node_core.specs.Serving.{ServedV}
 use Rattle.node_store.specs.Store.{Store}
-use Rattle.simulation.specs.declared.made.Made.{Made}
+use Rattle.message_store.specs.declared.made.Made.{Made}
 use Rattle.simulation.specs.declared.servers.Served.{Served}
 use Rattle.simulation.specs.declared.servers.Served.TheVariants as serves
 use Rattle.simulation.specs.Entries.{changes_of, lookup_of, with_one}
@@ -34,8 +34,8 @@ ticked sim by = record sim { moment = sim.moment + by; count = sim.count + 1 }
 
 -- the messages that wait once one more was sent to stand at this place
 abbrev pub awaiting : set.FinSet waiting_cmp → Option ℕ → ℕ → set.FinSet waiting_cmp
-awaiting waiting None place = waiting
-awaiting waiting (Some server) place = set.insert waiting (server, place)
+awaiting waiting None message = waiting
+awaiting waiting (Some server) message = set.insert waiting (server, message)
 
 -- the client of a number is this one now, and sent a message: it stands at the end, and waits there for its server
 abbrev pub sent_by : {X : Type 0} → SimulationV X → ℕ → ClientV → Msg → SimulationV X
@@ -67,26 +67,26 @@ resent_as sim number (Some client) = resent_open sim number client client.pendin
 abbrev pub resent_by : {X : Type 0} → SimulationV X → ℕ → SimulationV X
 resent_by sim number = resent_as sim number (client_at sim.clients number)
 
--- the places of the messages that answered a call, once the message at this place was taken
+-- the places of the messages that answered a call, once the message of this number was taken
 abbrev pub noting : set.FinSet nat_cmp → Taken → ℕ → set.FinSet nat_cmp
-noting places (Answer reply) place = set.insert places place
-noting places taken place = places
+noting places (Answer reply) message = set.insert places message
+noting places taken message = places
 
--- a client took the message at a place
+-- a client took the message
 abbrev pub took_by : {X : Type 0} → SimulationV X → ℕ → ℕ → Took → SimulationV X
-took_by sim number place took =
+took_by sim number message took =
     record sim {
       count = sim.count + 1;
       clients = slice_set sim.clients (number - 1) took.client;
-      taken = noting sim.taken took.taken place;
+      taken = noting sim.taken took.taken message;
     }
 
 abbrev pub taken_as : {X : Type 0} → SimulationV X → ℕ → ℕ → Option ClientV → Option Msg → SimulationV X
-taken_as sim number place (Some client) (Some msg) = took_by sim number place (take client msg)
-taken_as sim number place client msg = sim
+taken_as sim number message (Some client) (Some msg) = took_by sim number message (take client msg)
+taken_as sim number message client msg = sim
 
 abbrev pub taken_by : {X : Type 0} → SimulationV X → ℕ → ℕ → SimulationV X
-taken_by sim number place = taken_as sim number place (client_at sim.clients number) (slice_get sim.sent place)
+taken_by sim number message = taken_as sim number message (client_at sim.clients number) (slice_get sim.sent message)
 
 -- ---- a server, with its new store
 
@@ -100,23 +100,25 @@ sent_after sent given serves.Stopped = sent
 sent_after sent given served = sent ++ given.outputs
 
 abbrev pub made_after : List Made → Msg → ServedV → ℕ → Served → List Made
-made_after made msg given place serves.Stopped = made
-made_after made msg given place served = with_one (made ++ changes_of given.records) (lookup_of msg given.outputs place)
+made_after made msg given message serves.Stopped = made
+made_after made msg given message served =
+    with_one (made ++ changes_of given.records) (lookup_of msg given.outputs message)
 
--- its Serve of the message at a place ended so
+-- its Serve of the message ended so
 abbrev pub served_by : {X : Type 0} → SimulationV X → ℕ → ℕ → Store X → Msg → ServedV → Served → SimulationV X
-served_by sim server place store msg given served =
+served_by sim server message store msg given served =
     record sim {
       count = sim.count + 1;
       stores = slice_set sim.stores server store;
       sent = sent_after sim.sent given served;
-      waiting = set.remove sim.waiting (server, place);
+      waiting = set.remove sim.waiting (server, message);
       made = made_after sim.made msg given (length sim.sent) served;
     }
 
 -- its restart ended, and these are the entries then
 abbrev pub restarted_by : {X : Type 0} → SimulationV X → ℕ → Store X → List Made → SimulationV X
-restarted_by sim server store made = record sim { count = sim.count + 1; stores = slice_set sim.stores server store; made = made }
+restarted_by sim server store made =
+    record sim { count = sim.count + 1; stores = slice_set sim.stores server store; made = made }
 
 -- ---- its store
 

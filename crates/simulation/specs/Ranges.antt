@@ -39,7 +39,8 @@ pub record AreStores {X : Type 0} (setup : Setup) (stores : List (Store X)) : Ty
   pub each : Each stores (λ s store. (store.server ≡ s) × (store.setup ≡ setup))
 
 -- the parts that calls of a simulation read are within their ranges
-pub record IsRanged {X : Type 0} (setup : Setup) (now count : ℕ) (stores : List (Store X)) (clients : List ClientV) (sent : List Msg) : Type 0 where
+pub record IsRanged {X : Type 0} (setup : Setup) (now count : ℕ) (stores : List (Store X)) (clients : List ClientV)
+    (sent : List Msg) : Type 0 where
   pub ranges : AreRanges setup now (IsSeat setup count) clients (IsSent setup.servers) sent
   pub all : length clients ≡ setup.clients
   pub events : count ≤ EVENTS

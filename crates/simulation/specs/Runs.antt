@@ -27,11 +27,11 @@ pub record GoesOn (run : RunV) (event : Event) (P : RunV → Type 0) : Type 0 wh
   pub may : enabled run.trace.world event ≡ true
   pub then : P (grown run event)
 
--- whether a Serve names the message at a place
+-- whether a Serve names the message
 abbrev pub names : ℕ → Event → Bool
-names place (Serve server places how) = list_any (λ k. k == place) places
-names place event = false
+names message (Serve server places how) = list_any (λ k. k == message) places
+names message event = false
 
 -- whether some Serve of the run named it
 abbrev pub is_named : List Event → ℕ → Bool
-is_named events place = list_any (names place) events
+is_named events message = list_any (names message) events

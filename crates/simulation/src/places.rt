@@ -36,11 +36,11 @@ impl Places {
     }
 
     /// Adds a place. Where there is no memory for its mark the set stays as it is.
-    pub(crate) fn insert(&mut self, place: u64) -> Result<(), AllocError>
-        ensures ok { OnOk result (self.new ≡ set.insert self.old place) }
+    pub(crate) fn insert(&mut self, message: u64) -> Result<(), AllocError>
+        ensures ok { OnOk result (self.new ≡ set.insert self.old message) }
         ensures err { OnErr result (self.new ≡ self.old) }
     {
-        let at = place as usize;
+        let at = message as usize;
         let Some(len) = at.checked_add(1) else {
             return Err(AllocError);
         };
@@ -50,10 +50,10 @@ impl Places {
     }
 
     /// Whether a place is in the set.
-    pub(crate) fn contains(&self, place: u64) -> bool
-        ensures { result ≡ set.contains self.now place }
+    pub(crate) fn contains(&self, message: u64) -> bool
+        ensures { result ≡ set.contains self.now message }
     {
-        match self.marks.get(place as usize) {
+        match self.marks.get(message as usize) {
             None => false,
             Some(marked) => *marked,
         }

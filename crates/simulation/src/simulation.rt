@@ -1,4 +1,4 @@
-ghost use Rattle.std.specs.Prelude.{◌≡◌, ℕ, ◌+◌, ◌<◌, ◌≤◌, ◌^◌, true, Some, MatchOption};
+ghost use Rattle.std.specs.Prelude.{◌≡◌, ℕ, ◌+◌, ◌<◌, ◌≤◌, ◌^◌, true, Some, MatchOption, IfOk, length};
 ghost use Rattle.std.specs.Prelude.{slice_set};
 ghost use Rattle.std.specs.List.{slice_get};
 ghost use Rattle.mds_base.specs.declared.limits.TheConstants.{EVENTS, MOMENTS};
@@ -6,25 +6,24 @@ ghost use Rattle.mds_out.specs.Fused.{Fused};
 ghost use Rattle.node_store.specs.Store.{Store};
 ghost use Rattle.world.specs.declared.event.Event.TheVariants as Event;
 ghost use Rattle.world.specs.Events.{is_for_client};
-ghost use Rattle.simulation.specs.Fuses.{seen_by, images_by};
-ghost use Rattle.simulation.specs.Licences.{AreLicensed, none_at, once_at};
+ghost use Rattle.pasts.specs.Fuses.{seen_by, images_by};
+ghost use Rattle.simulation.specs.Payments.{ArePaid, none_at, once_at};
 ghost use Rattle.simulation.specs.Moves.{armed, ticked};
 ghost use Rattle.simulation.specs.Shows.{Happens, ShowsSame, client_at, server_for, stands_in};
 ghost use Rattle.simulation.specs.Shows as shown;
 
-use crate::made::{Kind, Made};
 use crate::places::Places;
-use crate::waiting::is_to;
+use crate::waits::Waits;
 use client_core::Client;
 use mds_base::Setup;
 use mds_base::limits::{SERVE_DIRECTORIES, SERVER_DIRECTORIES};
 use mds_out::{Disk, Fuse};
+use message_store::{Kind, Made, MessageStore};
 use node_store::NodeStore;
-use records::MsgList;
-use std::collections::BTreeSet;
+use std::alloc::{AllocError, Global};
 use std::marker::Model;
 
-/// Servers on disks, clients and all messages, at one moment (`docs/DEFINITIONS.md`, "Simulation").
+/// Servers on disks, clients and all messages, at one moment (`crates/simulation/README.md`, "Simulation").
 ///
 /// What each call does is said of the run that the simulation shows (`Shows`): each event that a call carries out may
 /// happen in it, and the simulation shows the run with it. That is claimed of disks that tell what they hold.
@@ -35,9 +34,9 @@ pub struct Simulation<D: Disk> {
     pub(crate) count: u64,
     pub(crate) stores: Vec<NodeStore<Fuse<D>>>,
     pub(crate) clients: Vec<Client>,
-    pub(crate) sent: MsgList,
-    pub(crate) waiting: BTreeSet<(u32, u64)>,
-    pub(crate) made: Vec<Made>,
+    // All messages, and the entries that were made.
+    pub(crate) messages: MessageStore,
+    pub(crate) waiting: Waits,
     pub(crate) taken: Places,
     // Empty, with room for all disks, so that they can be handed back without memory.
     pub(crate) back: Vec<D>,
@@ -53,7 +52,7 @@ impl<D: Disk> Model for Simulation<D> {
     ghost use Rattle.mds_base.specs.RowKeys.{coded_row_key};
     ghost use Rattle.bitmap.specs.Bits.{coded_bits};
     ghost use Rattle.mds_out.specs.Fused.{Fused};
-    ghost use Rattle.simulation.specs.Shows.{SimulationV, waiting_cmp};
+    ghost use Rattle.simulation.specs.Shows.{SimulationV};
     ghost use Rattle.simulation.specs.Ranges.{IsRanged};
 
     ghost Value = { SimulationV (Fused D) };
@@ -66,13 +65,14 @@ impl<D: Disk> Model for Simulation<D> {
       count = a.count;
       stores = a.stores.items;
       clients = a.clients.items;
-      sent = a.sent;
-      waiting = set.from_list {R = waiting_cmp} a.waiting.keys;
-      made = a.made.items;
+      sent = a.messages.sent;
+      waiting = a.waiting;
+      made = a.messages.made;
       taken = a.taken;
     } };
 
-    ghost invariant = { λ a. IsRanged a.setup a.moment a.count a.stores.items a.clients.items a.sent × (a.back.items ≡ []) × (a.setup.servers ≤ vec_capacity a.back) };
+    ghost invariant = { λ a. IsRanged a.setup a.moment a.count a.stores.items a.clients.items a.messages.sent
+        × (a.back.items ≡ []) × (a.setup.servers ≤ vec_capacity a.back) };
 }
 
 impl<D: Disk> Simulation<D> {
@@ -123,38 +123,42 @@ impl<D: Disk> Simulation<D> {
         next <= (u64::from(server) + 1) * SERVER_DIRECTORIES - SERVE_DIRECTORIES
     }
 
-    /// The server of the message at a place, where one was sent that is for a server: it is one that is there.
-    pub fn server_for(&self, place: u64) -> Option<u32>
-        ensures value { result ≡ server_for (slice_get self.now.sent place) }
+    /// The server of the message, where one was sent that is for a server: it is one that is there.
+    pub fn server_for(&self, message: u64) -> Option<u32>
+        ensures value { result ≡ server_for (slice_get self.now.sent message) }
         ensures there { MatchOption result (Unit {0}) (λ server. server < self.now.setup.servers) }
     {
-        let Ok(at) = usize::try_from(place) else {
+        let Ok(at) = usize::try_from(message) else {
             return None;
         };
-        match self.sent.get(at) {
-            None => None,
-            Some(msg) => msg.server(),
-        }
+        self.messages.server(at)
     }
 
-    /// Whether the message at a place was sent and is for a client.
-    pub fn is_for_client(&self, client: u32, place: u64) -> bool
-        ensures { result ≡ is_for_client client (slice_get self.now.sent place) }
+    /// Whether the message was sent and is for a client.
+    pub fn is_for_client(&self, client: u32, message: u64) -> bool
+        ensures { result ≡ is_for_client client (slice_get self.now.sent message) }
     {
-        let Ok(at) = usize::try_from(place) else {
+        let Ok(at) = usize::try_from(message) else {
             return false;
         };
-        match self.sent.get(at) {
+        match self.messages.client(at) {
             None => false,
-            Some(msg) => is_to(msg, client),
+            Some(to) => to == client,
         }
     }
 
-    /// The entries that were made.
-    pub fn made(&self) -> &[Made]
-        ensures { result.now ≡ self.now.made }
+    /// How many entries were made.
+    pub fn made_len(&self) -> usize
+        ensures { result ≡ length self.now.made }
     {
-        self.made.as_slice()
+        self.messages.made_len()
+    }
+
+    /// An entry that was made, by its place among them.
+    pub fn made(&self, alloc: Global, at: usize) -> Result<Option<Made>, AllocError>
+        ensures { IfOk result (λ made. made ≡ slice_get self.now.made at) }
+    {
+        self.messages.made(alloc, at)
     }
 
     /// Whether an entry that was made is an effect: a change is one, and a lookup where its answer was taken.
@@ -163,7 +167,7 @@ impl<D: Disk> Simulation<D> {
     {
         match made.kind {
             Kind::Change => true,
-            Kind::Lookup { place } => self.taken.contains(place),
+            Kind::Lookup { message } => self.taken.contains(message),
         }
     }
 
@@ -183,8 +187,9 @@ impl<D: Disk> Simulation<D> {
         requires { server < self.old.setup.servers }
         ensures setup { self.new.setup ≡ self.old.setup }
         ensures same { ShowsSame (seen_by D.seen) (images_by D.images) self.old self.new }
-        ensures licensed { AreLicensed D.faults self.old.stores self.new.stores none_at (once_at server) }
-        ensures after { (store : Store (Fused D)) → slice_get self.old.stores server ≡ Some store → self.new ≡ record self.old { stores = slice_set self.old.stores server (armed store calls) } }
+        ensures paid { ArePaid D.faults D.lasts self.old.stores self.new.stores none_at (once_at server) }
+        ensures after { (store : Store (Fused D)) → slice_get self.old.stores server ≡ Some store
+            → self.new ≡ record self.old { stores = slice_set self.old.stores server (armed store calls) } }
     {
         self.stores[server as usize].arm(calls);
     }

@@ -1,6 +1,6 @@
 use Rattle.std.proofs.Common.{◌∙◌, ap, arith}
 use Rattle.simulation.specs.Places.{places_of}
-use Rattle.simulation.proofs.Marks.{unmarked_more}
+use Rattle.simulation.proofs.MessageMarks.{unmarked_more}
 use Rattle.simulation.proofs.places.make_room.Goals as goal
 
 pub returns-in_ok-resize-clause-same : goal.returns-in_ok-resize-clause-same

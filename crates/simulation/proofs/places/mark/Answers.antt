@@ -1,4 +1,4 @@
-use Rattle.simulation.proofs.Marks.{one_marked}
+use Rattle.simulation.proofs.MessageMarks.{one_marked}
 use Rattle.simulation.proofs.places.mark.Goals as goal
 
 pub returns : goal.returns

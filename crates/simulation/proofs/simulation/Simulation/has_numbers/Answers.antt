@@ -1,8 +1,8 @@
 use Rattle.std.proofs.Common.{◌∙◌, ap, ◌+◌, ◌*◌, ◌-◌}
 use Rattle.std.specs.Prelude.{nat_le}
 use Rattle.mds_base.specs.declared.limits.TheConstants.{SERVER_DIRECTORIES, SERVE_DIRECTORIES}
-use Rattle.simulation.proofs.Numbers.{numbers_at}
-use Rattle.simulation.proofs.Standing.{up_store}
+use Rattle.simulation.proofs.ServerNumbers.{numbers_at}
+use Rattle.simulation.proofs.ServersShown.{up_store}
 use Rattle.simulation.proofs.simulation.Simulation.has_numbers.Goals as goal
 
 pub next_id-next-requires : goal.next_id-next-requires

@@ -1,15 +1,15 @@
 use Rattle.std.proofs.Common.{ap}
 use Rattle.mds_out.specs.Fused.{Fused}
 use Rattle.node_store.specs.Store.{Store}
-use Rattle.simulation.specs.Fuses.{seen_by, images_by}
+use Rattle.pasts.specs.Fuses.{seen_by, images_by}
 use Rattle.simulation.specs.Moves.{halt, halted_by}
 use Rattle.world.specs.declared.event.Event.TheVariants.{Stop}
 use Rattle.world.specs.declared.event.StopCause.TheVariants.{Asked}
-use Rattle.simulation.proofs.Licensing.{licensed_halted, quiet_licensed}
-use Rattle.simulation.proofs.Ranged.{ranged_event, room_in, stores_set}
-use Rattle.simulation.proofs.Showing.{happens_from}
-use Rattle.simulation.proofs.Standing.{up_store, store_after}
-use Rattle.simulation.proofs.Stopping.{halt_happens, is_halted}
+use Rattle.simulation.proofs.Payments.{is_paid_halted, quiet_paid}
+use Rattle.simulation.proofs.RangesKept.{ranged_event, room_in, stores_set}
+use Rattle.simulation.proofs.EventRun.{happens_from}
+use Rattle.simulation.proofs.ServersShown.{up_store, store_after}
+use Rattle.simulation.proofs.StopRun.{halt_happens, is_halted}
 use Rattle.simulation.proofs.simulation.Simulation.stop.Goals as goal
 
 pub halt-requires : goal.halt-requires
@@ -32,10 +32,10 @@ pub returns-clause-happens : goal.returns-clause-happens
 returns-clause-happens g c =
     let s = up_store c.self.view_is c.args.server c.index_mut.result.now c.index_mut.ensures.value c.requires.up.1 in
     happens_from (seen_by g.D.Disk.seen) (images_by g.D.Disk.images) _ _ _ (Stop c.args.server Asked) c.self.view_is
-    (halt_happens (seen_by g.D.Disk.seen) (images_by g.D.Disk.images) _ c.args.server c.index_mut.result.now c.halt.new.self s.is s.up s.up'
+    (halt_happens (seen_by g.D.Disk.seen) (images_by g.D.Disk.images) _ c.args.server c.index_mut.result.now c.halt.new.self s.is (room_in c.self.view_is c.requires.room) s.up s.up'
     (is_halted (seen_by g.D.Disk.seen) (images_by g.D.Disk.images) s.up c.halt.ensures.stopped c.halt.ensures.sure c.halt.ensures.at s.up'))
 
-pub returns-clause-licensed : goal.returns-clause-licensed
-returns-clause-licensed g c =
+pub returns-clause-paid : goal.returns-clause-paid
+returns-clause-paid g c =
     let s = up_store c.self.view_is c.args.server c.index_mut.result.now c.index_mut.ensures.value c.requires.up.1 in
-    quiet_licensed g.D.Disk.faults _ _ c.args.server c.index_mut.result.now c.halt.new.self c.self.view_is s.is (licensed_halted g.D.Disk.faults c.index_mut.result.now c.halt.new.self c.halt.ensures.stopped)
+    quiet_paid g.D.Disk.faults g.D.Disk.lasts _ _ c.args.server c.index_mut.result.now c.halt.new.self c.self.view_is s.is (is_paid_halted g.D.Disk.faults g.D.Disk.lasts c.index_mut.result.now c.halt.new.self c.halt.ensures.stopped)
