@@ -25,10 +25,10 @@ down_text (Some server) = server_line (codes "down ") server
 
 -- the line of an event
 abbrev pub event_text : WorldV → Event → List ℕ
-event_text w (Take client place) = take_text client (seat_at w.clients client) (slice_get w.sent place)
+event_text w (Take client message) = take_text client (seat_at w.clients client) (slice_get w.sent message)
 event_text w (Serve server places ends.Stop) = server_line (codes "stopped ") server
 event_text w (Stop server Device) = server_line (codes "stopped ") server
-event_text w (Miss place) = down_text (server_for (slice_get w.sent place))
+event_text w (Miss message) = down_text (server_for (slice_get w.sent message))
 event_text w event = []
 
 -- the lines of events

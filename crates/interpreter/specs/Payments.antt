@@ -1,12 +1,13 @@
 -- What pays for the stops that a text tells: of each server, faults of its disk and fuses that were armed.
-use Rattle.std.specs.Prelude.{◌≡◌, ℕ, ◌+◌, ◌^◌, ◌<◌, ◌&&◌, ◌==◌, Bool, true, not, nat_eq, if◌then◌else◌, List, [], ◌∷◌, ◌++◌, codes}
+use Rattle.std.specs.Prelude.{◌≡◌, ℕ, ◌+◌, ◌^◌, ◌<◌, ◌&&◌, ◌==◌, Bool, true, not, nat_eq, if◌then◌else◌, List, [], ◌∷◌}
+use Rattle.std.specs.Prelude.{◌++◌, codes}
 use Rattle.std.specs.Cmp.Lexicographic.{pointwise}
 use Rattle.std.specs.List.{AllByRecursion, flat_map, slice_get}
 use Rattle.mds_out.specs.Fused.{Fused}
 use Rattle.node_store.specs.Store.{Store}
 use Rattle.script.specs.declared.line.Line.{Line}
 use Rattle.script.specs.declared.line.Line.TheVariants as lines
-use Rattle.simulation.specs.Licences.{IsLicensed, none_at, once_at}
+use Rattle.simulation.specs.Payments.{IsPaid, none_at, once_at}
 use Rattle.interpreter.specs.Text.{server_line}
 
 -- whether no line feed stands among these bytes
@@ -35,11 +36,13 @@ stopped_line server = server_line (codes "stopped ") server
 
 -- From one moment to another lines were put behind what was pending; and of each server, as often as they say that it
 -- stopped, that is paid by faults of its disk and armed fuses.
-pub record Pays {D : Type 0} (faults : D → ℕ) (old new : List (Store (Fused D))) (was now : List ℕ) (fuses : ℕ → ℕ) : Type 0 where
+pub record Pays {D : Type 0} (faults : D → ℕ) (lasts : D → D → Type 0) (old new : List (Store (Fused D)))
+    (was now : List ℕ) (fuses : ℕ → ℕ) : Type 0 where
   pub printed : List (List ℕ)
   pub each : AllByRecursion IsPrinted printed
   pub text : now ≡ was ++ text_of printed
-  pub licensed : (s : ℕ) → s < 2 ^ 64 → IsLicensed faults (slice_get old s) (slice_get new s) (times (stopped_line s) printed) (fuses s)
+  pub paid : (s : ℕ) → s < 2 ^ 64 → IsPaid faults lasts (slice_get old s) (slice_get new s)
+      (times (stopped_line s) printed) (fuses s)
 
 -- the fuses that a line arms
 abbrev pub fuses_of : Line → ℕ → ℕ

@@ -1,28 +1,24 @@
 -- How replies and effects are printed; a call is printed as `script` says.
-use Rattle.std.specs.Prelude.{ℕ, List, [], ◌++◌, Option, Some, None, if◌then◌else◌, length, codes, decimal}
+use Rattle.std.specs.Prelude.{ℕ, List, [], ◌++◌, if◌then◌else◌, length, codes, decimal}
 use Rattle.std.specs.List.{flat_map}
 use Rattle.mds_base.specs.Entries.{is_file, stamp_of}
 use Rattle.mds_base.specs.declared.attr.Attr.{Attr}
-use Rattle.mds_base.specs.declared.attr.Stamp.{Stamp}
 use Rattle.mds_base.specs.declared.reply.Final.{Final}
-use Rattle.mds_base.specs.declared.reply.Final.TheVariants.{Created, CreatedDir, Exists, Removed, Missing, IsDir, Set, Ids, Loaded, Stale, Sealed, NotEmpty, Late, Opened, Killed}
+use Rattle.mds_base.specs.declared.reply.Final.TheVariants.{Created, CreatedDir, Exists, Removed, Missing, IsDir, Set}
+use Rattle.mds_base.specs.declared.reply.Final.TheVariants.{Ids, Loaded, Stale, Sealed, NotEmpty, Late, Opened, Killed}
 use Rattle.mds_base.specs.declared.reply.Reply.{Reply}
 use Rattle.mds_base.specs.declared.reply.Reply.TheVariants.{Said, Found, Listed}
 use Rattle.mds_base.specs.declared.entry.Entry.{Entry}
 use Rattle.client_core.specs.declared.taken.Taken.{Taken}
 use Rattle.client_core.specs.declared.taken.Taken.TheVariants as takes
-use Rattle.script.specs.Text.{call_text}
-use Rattle.simulation.specs.declared.made.Made.{Made}
+use Rattle.script.specs.Text.{call_text, stamp_text}
+use Rattle.message_store.specs.declared.made.Made.{Made}
 use Rattle.simulation.specs.Shows.{SimulationV, stands_in}
-
--- an owner and a time of modification behind other words, where there are any
-abbrev pub stamp_text : Option Stamp → List ℕ
-stamp_text None = []
-stamp_text (Some stamp) = codes " " ++ decimal stamp.owner ++ codes " " ++ decimal stamp.mtime
 
 -- what an entry is
 abbrev pub kind_text : Attr → List ℕ
-kind_text attr = (if is_file attr then codes "file" else (codes "dir " ++ decimal attr.dir)) ++ codes " " ++ decimal attr.mode ++ codes " " ++ decimal attr.size ++ stamp_text (stamp_of attr)
+kind_text attr = (if is_file attr then codes "file" else (codes "dir " ++ decimal attr.dir)) ++ codes " "
+    ++ decimal attr.mode ++ codes " " ++ decimal attr.size ++ stamp_text (stamp_of attr)
 
 abbrev pub final_text : Final → List ℕ
 final_text Created = codes "created"
@@ -48,7 +44,8 @@ reply_text (Listed rows) = codes "listed " ++ decimal (length rows)
 
 -- the line of an effect
 abbrev pub effect_line : Entry → List ℕ
-effect_line entry = codes "= " ++ decimal entry.client ++ codes " " ++ decimal entry.seq ++ codes " " ++ call_text entry.call ++ codes " " ++ reply_text entry.reply ++ codes "\n"
+effect_line entry = codes "= " ++ decimal entry.client ++ codes " " ++ decimal entry.seq ++ codes " "
+    ++ call_text entry.call ++ codes " " ++ reply_text entry.reply ++ codes "\n"
 
 abbrev pub effects_of : List Entry → List ℕ
 effects_of entries = flat_map effect_line entries

@@ -1,19 +1,19 @@
-ghost use Rattle.std.specs.Prelude.{◌≡◌, ◌++◌, [], ◌<◌, ◌≤◌, IfSome, OnOk, OnErr, MatchResult};
+ghost use Rattle.std.specs.Prelude.{◌≡◌, ◌++◌, [], ◌<◌, ◌≤◌, OnOk, OnErr, MatchResult};
 ghost use Rattle.std.specs.Prelude.{map as list_map};
 ghost use Rattle.std.specs.Prelude.{List};
 ghost use Rattle.mds_base.specs.declared.limits.TheConstants.{EVENTS};
 ghost use Rattle.world.specs.declared.state.ServerState.{ServerState};
-ghost use Rattle.simulation.specs.Fuses.{seen_by, images_by};
-ghost use Rattle.simulation.specs.Shows.{AreServers};
-ghost use Rattle.simulation.specs.Starts.{AreDisks};
+ghost use Rattle.pasts.specs.Fuses.{seen_by, images_by};
+ghost use Rattle.pasts.specs.Servers.{AreServers};
+ghost use Rattle.pasts.specs.Starts.{AreDisks};
 
+use crate::text::Printed;
 use mds_base::limits::EVENTS;
 use mds_base::{Damage, Which};
 use mds_out::Disk;
+use script::LineText;
 use simulation::Simulation;
 use std::alloc::{AllocError, Global};
-use std::fmt;
-use std::fmt::Write;
 
 /// Why a line was not carried out to its end.
 #[derive(Clone, Copy, Debug, PartialEq, Eq)]
@@ -29,8 +29,8 @@ pub enum Halt {
         server: u32,
         /// The file.
         file: u32,
-        /// The place in the file.
-        place: u64,
+        /// The offset in the file.
+        offset: u64,
         /// What is wrong there.
         damage: Damage,
     },
@@ -56,7 +56,7 @@ pub struct Interpreter<D: Disk> {
     /// The text that was made and not taken away yet.
     pub pending: Vec<u8>,
     // The line that is being printed.
-    text: String,
+    line: LineText,
 }
 
 impl<D: Disk> Interpreter<D> {
@@ -68,13 +68,14 @@ impl<D: Disk> Interpreter<D> {
         Interpreter {
             simulation,
             pending: Vec::new(alloc),
-            text: String::new(alloc),
+            line: LineText::new(),
         }
     }
 
     /// Whether one event more may be carried out.
     pub(crate) fn admit(&self) -> Result<(), Halt>
-        ensures { MatchResult result (λ _. self.now.simulation.count < EVENTS) (λ halt. (halt ≡ Halt.Limit Which.Events) × (EVENTS ≤ self.now.simulation.count)) }
+        ensures { MatchResult result (λ _. self.now.simulation.count < EVENTS)
+            (λ halt. (halt ≡ Halt.Limit Which.Events) × (EVENTS ≤ self.now.simulation.count)) }
     {
         if self.simulation.count() >= EVENTS {
             return Err(Halt::Limit {
@@ -85,14 +86,14 @@ impl<D: Disk> Interpreter<D> {
     }
 
     /// Prints a line behind what is pending. Where there is no memory for it nothing is printed.
-    pub(crate) fn print<T: fmt::Display + Drop>(&mut self, line: T) -> Result<(), AllocError>
-        ensures ok { OnOk result (IfSome (T.output line) (λ text. self.new.pending.items ≡ self.old.pending.items ++ text)) }
+    pub(crate) fn print<T: Printed + Drop>(&mut self, printed: T) -> Result<(), AllocError>
+        ensures ok { OnOk result (self.new.pending.items ≡ self.old.pending.items ++ T.text printed) }
         ensures err { OnErr result (self.new.pending.items ≡ self.old.pending.items) }
         ensures simulation { self.new.simulation ≡ self.old.simulation }
     {
-        self.text.clear();
-        write!(self.text, "{line}")?;
-        self.pending.extend_from_slice(self.text.as_bytes())
+        self.line.clear();
+        printed.print(&mut self.line);
+        self.pending.extend_from_slice(self.line.bytes())
     }
 }
 
@@ -100,7 +101,9 @@ impl<D: Disk + Drop> Interpreter<D> {
     /// The disks, each at its place. Where the servers on them are those of a world, the disks are such as a run leaves
     /// that ends there.
     pub fn into_disks(self) -> Vec<D>
-        ensures left { (servers : List ServerState) → AreServers (seen_by D.seen) (images_by D.images) self.simulation.setup self.simulation.stores servers → AreDisks D.seen D.images self.simulation.setup result.items servers }
+        ensures left { (servers : List ServerState)
+            → AreServers (seen_by D.seen) (images_by D.images) self.simulation.setup self.simulation.stores servers
+            → AreDisks D.seen D.images self.simulation.setup result.items servers }
         ensures same { result.items ≡ list_map (λ store. store.disk.inner) self.simulation.stores }
     {
         let Interpreter { simulation, .. } = self;

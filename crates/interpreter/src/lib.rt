@@ -17,4 +17,3 @@ mod lines;
 mod text;
 
 pub use interpreter::{Halt, Interpreter};
-pub use text::EffectLine;

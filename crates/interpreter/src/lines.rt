@@ -3,15 +3,16 @@ ghost use Rattle.std.specs.Prelude.{◌≡◌, true, IfOk, IfErr, OnOk};
 ghost use Rattle.node_store.specs.Serve.{IsWellMade};
 ghost use Rattle.script.specs.Grammar.{IsClient};
 ghost use Rattle.simulation.specs.Calls.{IsRequestAt};
-ghost use Rattle.simulation.specs.Fuses.{seen_by, images_by};
-ghost use Rattle.simulation.specs.Licences.{none_at};
+ghost use Rattle.pasts.specs.Fuses.{seen_by, images_by};
+ghost use Rattle.simulation.specs.Payments.{none_at};
 ghost use Rattle.simulation.specs.Runs.{RunV};
 ghost use Rattle.simulation.specs.Shows.{Shows, client_at, is_idle, is_busy};
 ghost use Rattle.world.specs.declared.event.Event.TheVariants as Event;
 ghost use Rattle.world.specs.Events.{is_call};
 ghost use Rattle.interpreter.specs.Payments.{Pays, fuses_of};
-ghost use Rattle.interpreter.specs.Steps.{Carries, Halts, IsRound, IsRequested, allows};
-ghost use Rattle.interpreter.specs.Story.{IsSaid, IsBegun, IsDone, IsFollowed, IsFollowing, IsSettled, IsSettling, IsSentAndFollowed, IsSending, is_allowed};
+ghost use Rattle.interpreter.specs.Steps.{Arms, Carries, Halts, HaltsLine, IsRound, IsRequested, allows};
+ghost use Rattle.interpreter.specs.Story.{IsSaid, IsDone, IsFollowed, IsFollowing, IsSettled, IsSettling};
+ghost use Rattle.interpreter.specs.Story.{IsSentAndFollowed, IsSending, is_allowed};
 
 use crate::interpreter::{Halt, Interpreter};
 use mds_base::limits::EVENTS;
@@ -26,7 +27,8 @@ impl<D: Disk> Interpreter<D> {
     pub fn is_allowed(&self, line: &Line) -> bool
         requires { IsSaid self.now.simulation.setup line.now }
         ensures allows { result ≡ allows self.now.simulation line.now }
-        ensures allowed { (run : RunV) → Shows (seen_by D.seen) (images_by D.images) self.now.simulation run → result ≡ is_allowed run.trace.world line.now }
+        ensures allowed { (run : RunV) → Shows (seen_by D.seen) (images_by D.images) self.now.simulation run
+            → result ≡ is_allowed run.trace.world line.now }
     {
         self.allows(line)
     }
@@ -45,8 +47,8 @@ impl<D: Disk> Interpreter<D> {
                 !self.simulation.client(*client).busy() && is_served(call)
             }
             Line::Retry { client } => self.simulation.client(*client).busy(),
-            Line::Deliver { place } => self.simulation.server_for(*place).is_some(),
-            Line::Take { client, place } => self.simulation.is_for_client(*client, *place),
+            Line::Deliver { message } => self.simulation.server_for(*message).is_some(),
+            Line::Take { client, message } => self.simulation.is_for_client(*client, *message),
             Line::Settle => true,
             Line::Tick { .. } => true,
             Line::Fuse { .. } => true,
@@ -62,9 +64,15 @@ impl<D: Disk> Interpreter<D> {
     pub fn carry_out(&mut self, alloc: Global, line: Line) -> Result<(), Halt>
         requires said { IsSaid self.old.simulation.setup line }
         requires allowed { allows self.old.simulation line ≡ true }
-        ensures ok { OnOk result (Carries (seen_by D.seen) (images_by D.images) self.old.simulation self.new.simulation self.old.pending.items self.new.pending.items (λ run. IsDone run line)) }
-        ensures err { IfErr result (Halts (seen_by D.seen) (images_by D.images) self.old.simulation self.new.simulation self.old.pending.items self.new.pending.items (λ run. IsBegun run line)) }
-        ensures paid { Pays D.faults self.old.simulation.stores self.new.simulation.stores self.old.pending.items self.new.pending.items (fuses_of line) }
+        ensures ok { OnOk result
+            (Carries (seen_by D.seen) (images_by D.images) self.old.simulation self.new.simulation
+            self.old.pending.items self.new.pending.items (λ run. IsDone run line)) }
+        ensures err { IfErr result
+            (HaltsLine (seen_by D.seen) (images_by D.images) self.old.simulation self.new.simulation
+            self.old.pending.items self.new.pending.items line) }
+        ensures arms { OnOk result (Arms self.old.simulation self.new.simulation line) }
+        ensures paid { Pays D.faults D.lasts self.old.simulation.stores self.new.simulation.stores
+            self.old.pending.items self.new.pending.items (fuses_of line) }
         ensures setup { self.new.simulation.setup ≡ self.old.simulation.setup }
     {
         match line {
@@ -75,12 +83,12 @@ impl<D: Disk> Interpreter<D> {
                 Ok(())
             }
             Line::Retry { client } => self.retry(alloc, client),
-            Line::Deliver { place } => {
-                self.deliver(alloc, place)?;
+            Line::Deliver { message } => {
+                self.deliver(alloc, message)?;
                 Ok(())
             }
-            Line::Take { client, place } => {
-                self.take(alloc, client, place)?;
+            Line::Take { client, message } => {
+                self.take(alloc, client, message)?;
                 Ok(())
             }
             Line::Settle => self.settle(alloc),
@@ -102,44 +110,60 @@ impl<D: Disk> Interpreter<D> {
         requires free { is_idle (client_at self.old.simulation.clients client) ≡ true }
         requires made { IsWellMade call }
         requires served { is_call call ≡ true }
-        ensures ok { OnOk result (Carries (seen_by D.seen) (images_by D.images) self.old.simulation self.new.simulation self.old.pending.items self.new.pending.items (λ run. IsSentAndFollowed run client (Event.Issue client call))) }
-        ensures err { IfErr result (Halts (seen_by D.seen) (images_by D.images) self.old.simulation self.new.simulation self.old.pending.items self.new.pending.items (λ run. IsSending run client (Event.Issue client call))) }
-        ensures paid { Pays D.faults self.old.simulation.stores self.new.simulation.stores self.old.pending.items self.new.pending.items none_at }
+        ensures ok { OnOk result
+            (Carries (seen_by D.seen) (images_by D.images) self.old.simulation self.new.simulation
+            self.old.pending.items self.new.pending.items
+            (λ run. IsSentAndFollowed run client (Event.Issue client call))) }
+        ensures err { IfErr result
+            (Halts (seen_by D.seen) (images_by D.images) self.old.simulation self.new.simulation self.old.pending.items
+            self.new.pending.items (λ run. IsSending run client (Event.Issue client call))) }
+        ensures paid { Pays D.faults D.lasts self.old.simulation.stores self.new.simulation.stores
+            self.old.pending.items self.new.pending.items none_at }
         ensures setup { self.new.simulation.setup ≡ self.old.simulation.setup }
     {
-        let place = self.issue(alloc, client, call)?;
-        self.follow(alloc, client, place)
+        let message = self.issue(alloc, client, call)?;
+        self.follow(alloc, client, message)
     }
 
     // Sends a client's open call again, and follows it.
     fn retry(&mut self, alloc: Global, client: u32) -> Result<(), Halt>
         requires client { IsClient self.old.simulation.setup client }
         requires busy { is_busy (client_at self.old.simulation.clients client) ≡ true }
-        ensures ok { OnOk result (Carries (seen_by D.seen) (images_by D.images) self.old.simulation self.new.simulation self.old.pending.items self.new.pending.items (λ run. IsSentAndFollowed run client (Event.Resend client))) }
-        ensures err { IfErr result (Halts (seen_by D.seen) (images_by D.images) self.old.simulation self.new.simulation self.old.pending.items self.new.pending.items (λ run. IsSending run client (Event.Resend client))) }
-        ensures paid { Pays D.faults self.old.simulation.stores self.new.simulation.stores self.old.pending.items self.new.pending.items none_at }
+        ensures ok { OnOk result
+            (Carries (seen_by D.seen) (images_by D.images) self.old.simulation self.new.simulation
+            self.old.pending.items self.new.pending.items (λ run. IsSentAndFollowed run client (Event.Resend client))) }
+        ensures err { IfErr result
+            (Halts (seen_by D.seen) (images_by D.images) self.old.simulation self.new.simulation self.old.pending.items
+            self.new.pending.items (λ run. IsSending run client (Event.Resend client))) }
+        ensures paid { Pays D.faults D.lasts self.old.simulation.stores self.new.simulation.stores
+            self.old.pending.items self.new.pending.items none_at }
         ensures setup { self.new.simulation.setup ≡ self.old.simulation.setup }
     {
-        let place = self.resend(alloc, client)?;
-        self.follow(alloc, client, place)
+        let message = self.resend(alloc, client)?;
+        self.follow(alloc, client, message)
     }
 
     // Follows a client's message: it is delivered, its reply is taken, and where that redirects the client the call is
     // sent again.
-    fn follow(&mut self, alloc: Global, client: u32, place: u64) -> Result<(), Halt>
+    fn follow(&mut self, alloc: Global, client: u32, message: u64) -> Result<(), Halt>
         requires client { IsClient self.old.simulation.setup client }
-        requires request { IsRequestAt self.old.simulation client place }
-        ensures ok { OnOk result (Carries (seen_by D.seen) (images_by D.images) self.old.simulation self.new.simulation self.old.pending.items self.new.pending.items (λ run. IsFollowed run client place)) }
-        ensures err { IfErr result (Halts (seen_by D.seen) (images_by D.images) self.old.simulation self.new.simulation self.old.pending.items self.new.pending.items (λ run. IsFollowing run client place)) }
-        ensures paid { Pays D.faults self.old.simulation.stores self.new.simulation.stores self.old.pending.items self.new.pending.items none_at }
+        requires request { IsRequestAt self.old.simulation client message }
+        ensures ok { OnOk result
+            (Carries (seen_by D.seen) (images_by D.images) self.old.simulation self.new.simulation
+            self.old.pending.items self.new.pending.items (λ run. IsFollowed run client message)) }
+        ensures err { IfErr result
+            (Halts (seen_by D.seen) (images_by D.images) self.old.simulation self.new.simulation self.old.pending.items
+            self.new.pending.items (λ run. IsFollowing run client message)) }
+        ensures paid { Pays D.faults D.lasts self.old.simulation.stores self.new.simulation.stores
+            self.old.pending.items self.new.pending.items none_at }
         ensures setup { self.new.simulation.setup ≡ self.old.simulation.setup }
     {
-        let mut next = place;
+        let mut next = message;
         // Each round is an event at least, so a run has no more of them.
         for _ in 0..=EVENTS {
             match self.round(alloc, client, next)? {
                 None => return Ok(()),
-                Some(place) => next = place,
+                Some(message) => next = message,
             }
         }
         Err(Halt::Limit {
@@ -148,17 +172,22 @@ impl<D: Disk> Interpreter<D> {
     }
 
     // Delivers a client's message, has the client take the reply, and where that redirects it sends the call again.
-    // Answers the place of the message to follow then.
-    fn round(&mut self, alloc: Global, client: u32, place: u64) -> Result<Option<u64>, Halt>
+    // Answers the number of the message to follow then.
+    fn round(&mut self, alloc: Global, client: u32, message: u64) -> Result<Option<u64>, Halt>
         requires client { IsClient self.old.simulation.setup client }
-        requires request { IsRequestAt self.old.simulation client place }
-        ensures ok { IfOk result (λ next. Carries (seen_by D.seen) (images_by D.images) self.old.simulation self.new.simulation self.old.pending.items self.new.pending.items (IsRound client place next)) }
+        requires request { IsRequestAt self.old.simulation client message }
+        ensures ok { IfOk result
+            (λ next. Carries (seen_by D.seen) (images_by D.images) self.old.simulation self.new.simulation
+            self.old.pending.items self.new.pending.items (IsRound client message next)) }
         ensures request { IfOk result (IsRequested self.new.simulation client) }
-        ensures err { IfErr result (Halts (seen_by D.seen) (images_by D.images) self.old.simulation self.new.simulation self.old.pending.items self.new.pending.items (λ run. IsFollowing run client place)) }
-        ensures paid { Pays D.faults self.old.simulation.stores self.new.simulation.stores self.old.pending.items self.new.pending.items none_at }
+        ensures err { IfErr result
+            (Halts (seen_by D.seen) (images_by D.images) self.old.simulation self.new.simulation self.old.pending.items
+            self.new.pending.items (λ run. IsFollowing run client message)) }
+        ensures paid { Pays D.faults D.lasts self.old.simulation.stores self.new.simulation.stores
+            self.old.pending.items self.new.pending.items none_at }
         ensures setup { self.new.simulation.setup ≡ self.old.simulation.setup }
     {
-        let Some(reply) = self.deliver(alloc, place)? else {
+        let Some(reply) = self.deliver(alloc, message)? else {
             return Ok(None);
         };
         if !self.take(alloc, client, reply)? {
@@ -170,17 +199,22 @@ impl<D: Disk> Interpreter<D> {
 
     // Delivers the first message that waits for a server that is up, until there is none.
     fn settle(&mut self, alloc: Global) -> Result<(), Halt>
-        ensures ok { OnOk result (Carries (seen_by D.seen) (images_by D.images) self.old.simulation self.new.simulation self.old.pending.items self.new.pending.items IsSettled) }
-        ensures err { IfErr result (Halts (seen_by D.seen) (images_by D.images) self.old.simulation self.new.simulation self.old.pending.items self.new.pending.items IsSettling) }
-        ensures paid { Pays D.faults self.old.simulation.stores self.new.simulation.stores self.old.pending.items self.new.pending.items none_at }
+        ensures ok { OnOk result
+            (Carries (seen_by D.seen) (images_by D.images) self.old.simulation self.new.simulation
+            self.old.pending.items self.new.pending.items IsSettled) }
+        ensures err { IfErr result
+            (Halts (seen_by D.seen) (images_by D.images) self.old.simulation self.new.simulation self.old.pending.items
+            self.new.pending.items IsSettling) }
+        ensures paid { Pays D.faults D.lasts self.old.simulation.stores self.new.simulation.stores
+            self.old.pending.items self.new.pending.items none_at }
         ensures setup { self.new.simulation.setup ≡ self.old.simulation.setup }
     {
         // Each round is an event, so a run has no more of them.
         for _ in 0..=EVENTS {
-            let Some(place) = self.simulation.next_waiting() else {
+            let Some(message) = self.simulation.next_waiting() else {
                 return Ok(());
             };
-            self.deliver(alloc, place)?;
+            self.deliver(alloc, message)?;
         }
         Err(Halt::Limit {
             which: Which::Events,

@@ -1,126 +1,131 @@
-//! How replies and events are printed (`docs/FORMATS.md`, "Lines carried out"); a call is printed by `script`.
+//! How replies and events are printed (`docs/FORMATS.md`, "Lines carried out"); a call is printed by `script`. A line
+//! is written from its end to its front.
+ghost use Rattle.std.specs.Prelude.{◌≡◌, ◌++◌, ◌≤◌, ◌+◌, [], length};
+ghost use Rattle.interpreter.specs.Text.{effect_line, final_text, kind_text, reply_text, taken_text};
+ghost use Rattle.interpreter.specs.declared.text.TheConstants.{REPLY_TEXT};
+ghost use Rattle.script.specs.declared.line_text.TheConstants.{LINE_TEXT};
+
 use client_core::Taken;
-use mds_base::{Attr, Entry, Final, Reply, Stamp};
-use script::CallText;
-use std::fmt;
+use mds_base::{Attr, Entry, Final, Reply};
+use script::LineText;
 
-/// An owner and a time of modification behind other words, where there are any.
-#[derive(Drop)]
-pub(crate) struct StampText(pub(crate) Option<Stamp>);
+/// The most bytes of a reply.
+pub(crate) const REPLY_TEXT: usize = 128;
 
-impl fmt::Display for StampText {
-    ghost use Rattle.std.specs.Prelude.{Some};
-    ghost use Rattle.interpreter.specs.Text.{stamp_text};
+/// What is printed as a line.
+pub(crate) trait Printed {
+    ghost use Rattle.std.specs.Prelude.{List, ℕ};
 
-    ghost output = { λ text. Some (stamp_text text.0) };
+    // The line, with its line feed; or nothing.
+    ghost text: { Self → List ℕ };
 
-    fn fmt<W: fmt::Write>(&self, f: &mut fmt::Formatter<W>) -> fmt::Result {
-        match self.0 {
-            None => Ok(()),
-            Some(Stamp { owner, mtime }) => write!(f, " {owner} {mtime}"),
+    /// Writes the line.
+    fn print(&self, line: &mut LineText)
+        requires { line.old ≡ [] }
+        ensures { line.new ≡ text self.now };
+}
+
+/// Puts what an entry is in front, with its attributes.
+fn put_kind(line: &mut LineText, attr: Attr)
+    requires { REPLY_TEXT + length line.old ≤ LINE_TEXT }
+    ensures text { line.new ≡ kind_text attr ++ line.old }
+    ensures room { length line.new + 6 ≤ REPLY_TEXT + length line.old }
+{
+    line.put_stamp(attr.stamp());
+    line.put_spaced(attr.size);
+    line.put_spaced(u64::from(attr.mode));
+    if attr.dir == 0 {
+        line.put(b"file");
+    } else {
+        line.put_number(attr.dir);
+        line.put(b"dir ");
+    }
+}
+
+/// Puts a final reply in front, as an answer line says it.
+fn put_final(line: &mut LineText, said: Final)
+    requires { REPLY_TEXT + length line.old ≤ LINE_TEXT }
+    ensures text { line.new ≡ final_text said ++ line.old }
+    ensures room { length line.new ≤ REPLY_TEXT + length line.old }
+{
+    match said {
+        Final::Created => line.put(b"created"),
+        Final::CreatedDir(number) => {
+            line.put_number(number);
+            line.put(b"created ");
+        }
+        Final::Exists => line.put(b"exists"),
+        Final::Removed => line.put(b"removed"),
+        Final::Missing => line.put(b"missing"),
+        Final::IsDir => line.put(b"isdir"),
+        Final::Set => line.put(b"set"),
+        Final::Ids(first) => {
+            line.put_number(first);
+            line.put(b"ids ");
+        }
+        Final::Loaded(count) => {
+            line.put_number(u64::from(count));
+            line.put(b"loaded ");
+        }
+        Final::Stale => line.put(b"stale"),
+        Final::Sealed { depth, epoch } => {
+            line.put_spaced(epoch);
+            line.put_number(u64::from(depth));
+            line.put(b"sealed ");
+        }
+        Final::NotEmpty => line.put(b"notempty"),
+        Final::Late => line.put(b"late"),
+        Final::Opened => line.put(b"opened"),
+        Final::Killed => line.put(b"killed"),
+    }
+}
+
+/// Puts a reply in front, as an answer line says it.
+fn put_reply(line: &mut LineText, reply: &Reply)
+    requires { REPLY_TEXT + length line.old ≤ LINE_TEXT }
+    ensures text { line.new ≡ reply_text reply.now ++ line.old }
+    ensures room { length line.new ≤ REPLY_TEXT + length line.old }
+{
+    match reply {
+        Reply::Said(said) => put_final(line, *said),
+        Reply::Found { attr, .. } => {
+            put_kind(line, *attr);
+            line.put(b"found ");
+        }
+        Reply::Listed { rows } => {
+            line.put_number(rows.rows().len() as u64);
+            line.put(b"listed ");
         }
     }
 }
 
-/// What an entry is, with its attributes.
-#[derive(Drop)]
-pub(crate) struct KindText(pub(crate) Attr);
-
-impl fmt::Display for KindText {
-    ghost use Rattle.std.specs.Prelude.{Some};
-    ghost use Rattle.interpreter.specs.Text.{kind_text};
-
-    ghost output = { λ text. Some (kind_text text.0) };
-
-    fn fmt<W: fmt::Write>(&self, f: &mut fmt::Formatter<W>) -> fmt::Result {
-        let Attr {
-            dir,
-            mode,
-            size,
-            ..
-        } = self.0;
-        let stamp = StampText(self.0.stamp());
-        if dir == 0 {
-            write!(f, "file {mode} {size}{stamp}")
-        } else {
-            write!(f, "dir {dir} {mode} {size}{stamp}")
+/// Puts in front what a client made of a message, as a line says it; nothing where it went on to the next page or
+/// ignored it.
+fn put_taken(line: &mut LineText, taken: &Taken)
+    requires { REPLY_TEXT + length line.old ≤ LINE_TEXT }
+    ensures text { line.new ≡ taken_text taken.now ++ line.old }
+    ensures room { length line.new ≤ REPLY_TEXT + length line.old }
+{
+    match taken {
+        Taken::Answer(reply) => put_reply(line, reply),
+        Taken::Redirected { part } => {
+            line.put_number(u64::from(*part));
+            line.put(b"redirect ");
         }
+        Taken::Busy { part } => {
+            line.put_number(u64::from(*part));
+            line.put(b"busy ");
+        }
+        Taken::Held { until } => {
+            line.put_number(*until);
+            line.put(b"held ");
+        }
+        Taken::Paged => {}
+        Taken::Ignored => {}
     }
 }
 
-/// A final reply, as an answer line says it.
-#[derive(Drop)]
-pub(crate) struct FinalText(pub(crate) Final);
-
-impl fmt::Display for FinalText {
-    ghost use Rattle.std.specs.Prelude.{Some};
-    ghost use Rattle.interpreter.specs.Text.{final_text};
-
-    ghost output = { λ text. Some (final_text text.0) };
-
-    fn fmt<W: fmt::Write>(&self, f: &mut fmt::Formatter<W>) -> fmt::Result {
-        match self.0 {
-            Final::Created => write!(f, "created"),
-            Final::CreatedDir(number) => write!(f, "created {number}"),
-            Final::Exists => write!(f, "exists"),
-            Final::Removed => write!(f, "removed"),
-            Final::Missing => write!(f, "missing"),
-            Final::IsDir => write!(f, "isdir"),
-            Final::Set => write!(f, "set"),
-            Final::Ids(first) => write!(f, "ids {first}"),
-            Final::Loaded(count) => write!(f, "loaded {count}"),
-            Final::Stale => write!(f, "stale"),
-            Final::Sealed { depth, epoch } => write!(f, "sealed {depth} {epoch}"),
-            Final::NotEmpty => write!(f, "notempty"),
-            Final::Late => write!(f, "late"),
-            Final::Opened => write!(f, "opened"),
-            Final::Killed => write!(f, "killed"),
-        }
-    }
-}
-
-/// A reply, as an answer line says it.
-#[derive(Drop)]
-pub(crate) struct ReplyText<'a>(pub(crate) &'a Reply);
-
-impl fmt::Display for ReplyText<'_> {
-    ghost use Rattle.std.specs.Prelude.{Some};
-    ghost use Rattle.interpreter.specs.Text.{reply_text};
-
-    ghost output = { λ text. Some (reply_text text.0.now) };
-
-    fn fmt<W: fmt::Write>(&self, f: &mut fmt::Formatter<W>) -> fmt::Result {
-        match self.0 {
-            Reply::Said(said) => write!(f, "{}", FinalText(*said)),
-            Reply::Found { attr, .. } => write!(f, "found {}", KindText(*attr)),
-            Reply::Listed { rows } => write!(f, "listed {}", rows.rows().len()),
-        }
-    }
-}
-
-/// What a client made of a message, as a line says it; nothing where it went on to the next page or ignored it.
-#[derive(Drop)]
-struct TakenText<'a>(&'a Taken);
-
-impl fmt::Display for TakenText<'_> {
-    ghost use Rattle.std.specs.Prelude.{Some};
-    ghost use Rattle.interpreter.specs.Text.{taken_text};
-
-    ghost output = { λ text. Some (taken_text text.0.now) };
-
-    fn fmt<W: fmt::Write>(&self, f: &mut fmt::Formatter<W>) -> fmt::Result {
-        match self.0 {
-            Taken::Answer(reply) => write!(f, "{}", ReplyText(reply)),
-            Taken::Redirected { part } => write!(f, "redirect {part}"),
-            Taken::Busy { part } => write!(f, "busy {part}"),
-            Taken::Held { until } => write!(f, "held {until}"),
-            Taken::Paged => Ok(()),
-            Taken::Ignored => Ok(()),
-        }
-    }
-}
-
-/// The line of a client that took a message, with its line feed; nothing where that says nothing.
+/// The line of a client that took a message; nothing where that says nothing.
 #[derive(Drop)]
 pub(crate) struct TakenLine<'a> {
     /// The client.
@@ -131,70 +136,71 @@ pub(crate) struct TakenLine<'a> {
     pub(crate) taken: &'a Taken,
 }
 
-impl fmt::Display for TakenLine<'_> {
-    ghost use Rattle.std.specs.Prelude.{Some};
+impl Printed for TakenLine<'_> {
     ghost use Rattle.interpreter.specs.Text.{taken_line};
 
-    ghost output = { λ line. Some (taken_line line.client line.seq line.taken.now) };
+    ghost text = { λ line. taken_line line.client line.seq line.taken.now };
 
-    fn fmt<W: fmt::Write>(&self, f: &mut fmt::Formatter<W>) -> fmt::Result {
+    fn print(&self, line: &mut LineText) {
         match self.taken {
-            Taken::Paged => Ok(()),
-            Taken::Ignored => Ok(()),
-            taken => writeln!(f, "{} {} {}", self.client, self.seq, TakenText(taken)),
+            Taken::Paged => {}
+            Taken::Ignored => {}
+            taken => {
+                line.put(b"\n");
+                put_taken(line, taken);
+                line.put(b" ");
+                line.put_spaced(self.seq);
+                line.put_number(u64::from(self.client));
+            }
         }
     }
 }
 
-/// The line of a server that stopped, with its line feed.
+/// The line of a server that stopped.
 #[derive(Drop)]
 pub(crate) struct StoppedLine(pub(crate) u32);
 
-impl fmt::Display for StoppedLine {
-    ghost use Rattle.std.specs.Prelude.{Some, codes};
+impl Printed for StoppedLine {
+    ghost use Rattle.std.specs.Prelude.{codes};
     ghost use Rattle.interpreter.specs.Text.{server_line};
 
-    ghost output = { λ line. Some (server_line (codes "stopped ") line.0) };
+    ghost text = { λ line. server_line (codes "stopped ") line.0 };
 
-    fn fmt<W: fmt::Write>(&self, f: &mut fmt::Formatter<W>) -> fmt::Result {
-        writeln!(f, "stopped {}", self.0)
+    fn print(&self, line: &mut LineText) {
+        line.put(b"\n");
+        line.put_number(u64::from(self.0));
+        line.put(b"stopped ");
     }
 }
 
-/// The line of a message that met a server that is down, with its line feed.
+/// The line of a message that met a server that is down.
 #[derive(Drop)]
 pub(crate) struct DownLine(pub(crate) u32);
 
-impl fmt::Display for DownLine {
-    ghost use Rattle.std.specs.Prelude.{Some, codes};
+impl Printed for DownLine {
+    ghost use Rattle.std.specs.Prelude.{codes};
     ghost use Rattle.interpreter.specs.Text.{server_line};
 
-    ghost output = { λ line. Some (server_line (codes "down ") line.0) };
+    ghost text = { λ line. server_line (codes "down ") line.0 };
 
-    fn fmt<W: fmt::Write>(&self, f: &mut fmt::Formatter<W>) -> fmt::Result {
-        writeln!(f, "down {}", self.0)
+    fn print(&self, line: &mut LineText) {
+        line.put(b"\n");
+        line.put_number(u64::from(self.0));
+        line.put(b"down ");
     }
 }
 
-/// The line of a call's effect, with its line feed.
-#[derive(Drop)]
-pub struct EffectLine<'a>(pub &'a Entry);
-
-impl fmt::Display for EffectLine<'_> {
-    ghost use Rattle.std.specs.Prelude.{Some};
-    ghost use Rattle.interpreter.specs.Text.{effect_line};
-
-    ghost output = { λ text. Some (effect_line text.0.now) };
-
-    fn fmt<W: fmt::Write>(&self, f: &mut fmt::Formatter<W>) -> fmt::Result {
-        let entry = self.0;
-        writeln!(
-            f,
-            "= {} {} {} {}",
-            entry.client,
-            entry.seq,
-            CallText(&entry.call),
-            ReplyText(&entry.reply)
-        )
-    }
+/// Writes the line of a call's effect.
+pub(crate) fn print_effect(line: &mut LineText, entry: &Entry)
+    requires { line.old ≡ [] }
+    ensures { line.new ≡ effect_line entry.now }
+{
+    line.put(b"\n");
+    put_reply(line, &entry.reply);
+    line.put(b" ");
+    line.put_call(&entry.call);
+    line.put(b" ");
+    line.put_spaced(entry.seq);
+    line.put_number(u64::from(entry.client));
+    line.put(b"= ");
 }

@@ -1,9 +1,9 @@
-use Rattle.simulation.specs.Licences.{none_at}
-use Rattle.simulation.specs.Fuses.{seen_by, images_by}
-use Rattle.interpreter.proofs.Following.{Follows}
+use Rattle.simulation.specs.Payments.{none_at}
+use Rattle.pasts.specs.Fuses.{seen_by, images_by}
+use Rattle.interpreter.proofs.MessageFollowed.{Follows}
 use Rattle.interpreter.specs.Payments.{Pays}
 use Rattle.interpreter.proofs.interpreter.Interpreter.follow.Given as goal
 
 -- the message to follow next is one that the client's message led to, and what was printed is paid
 abbrev pub invariant-loop : goal.invariant-loop
-invariant-loop g l = Follows (seen_by g.D.Disk.seen) (images_by g.D.Disk.images) l.fn.self.simulation l.self.simulation l.fn.self.pending.items l.self.pending.items l.client l.place l.next l.counter × Pays g.D.Disk.faults l.fn.self.simulation.stores l.self.simulation.stores l.fn.self.pending.items l.self.pending.items none_at
+invariant-loop g l = Follows (seen_by g.D.Disk.seen) (images_by g.D.Disk.images) l.fn.self.simulation l.self.simulation l.fn.self.pending.items l.self.pending.items l.client l.message l.next l.counter × Pays g.D.Disk.faults g.D.Disk.lasts l.fn.self.simulation.stores l.self.simulation.stores l.fn.self.pending.items l.self.pending.items none_at

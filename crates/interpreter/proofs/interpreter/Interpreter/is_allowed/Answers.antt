@@ -1,6 +1,6 @@
 use Rattle.std.proofs.Common.{◌∙◌}
-use Rattle.simulation.specs.Fuses.{seen_by, images_by}
-use Rattle.interpreter.proofs.Sights.{allows_seen}
+use Rattle.pasts.specs.Fuses.{seen_by, images_by}
+use Rattle.interpreter.proofs.WorldSeen.{allows_seen}
 use Rattle.interpreter.proofs.interpreter.Interpreter.is_allowed.Goals as goal
 
 pub returns-clause-allowed : goal.returns-clause-allowed

@@ -1,28 +1,28 @@
-use Rattle.simulation.specs.Fuses.{seen_by, images_by}
+use Rattle.pasts.specs.Fuses.{seen_by, images_by}
 use Rattle.world.specs.declared.event.Event.TheVariants.{Resend}
 use Rattle.interpreter.specs.Steps.{Halts}
 use Rattle.interpreter.specs.Story.{IsFollowing, IsSending}
-use Rattle.interpreter.proofs.Following.{sent_followed, sent_halts, unsent_halts}
+use Rattle.interpreter.proofs.MessageFollowed.{sent_followed, sent_halts, unsent_halts}
 use Rattle.node_store.proofs.Restarting.{err_at}
-use Rattle.interpreter.proofs.Happening.{on_ok, on_err}
-use Rattle.interpreter.proofs.Paying.{pays_next}
+use Rattle.interpreter.proofs.EventHappens.{on_ok, on_err}
+use Rattle.interpreter.proofs.Payments.{pays_next}
 use Rattle.interpreter.proofs.interpreter.Interpreter.retry.Goals as goal
 
-pub returns-in_err-place-clause-err : goal.returns-in_err-place-clause-err
-returns-in_err-place-clause-err g c =
-    err_at _ c.in_err-place.field-0.0 _ c.from_residual.ensures.1
-    (unsent_halts (seen_by g.D.Disk.seen) (images_by g.D.Disk.images) c.args.self.now.simulation c.resend.new.self.simulation c.args.self.now.pending.items c.resend.new.self.pending.items c.args.client (Resend c.args.client) c.in_err-place.field-0.0 c.in_err-place.ensures.err)
+pub returns-in_err-message-clause-err : goal.returns-in_err-message-clause-err
+returns-in_err-message-clause-err g c =
+    err_at _ c.in_err-message.field-0.0 _ c.from_residual.ensures.1
+    (unsent_halts (seen_by g.D.Disk.seen) (images_by g.D.Disk.images) c.args.self.now.simulation c.resend.new.self.simulation c.args.self.now.pending.items c.resend.new.self.pending.items c.args.client (Resend c.args.client) c.in_err-message.field-0.0 c.in_err-message.ensures.err)
 
 pub returns-clause-ok : goal.returns-clause-ok
 returns-clause-ok g c =
     on_ok c.follow.result c.follow.ensures.ok
-    (sent_followed (seen_by g.D.Disk.seen) (images_by g.D.Disk.images) c.args.self.now.simulation c.resend.new.self.simulation c.follow.new.self.simulation c.args.self.now.pending.items c.resend.new.self.pending.items c.follow.new.self.pending.items c.args.client c.in_ok-place.place (Resend c.args.client) c.in_ok-place.ensures.ok c.in_ok-place.ensures.place)
+    (sent_followed (seen_by g.D.Disk.seen) (images_by g.D.Disk.images) c.args.self.now.simulation c.resend.new.self.simulation c.follow.new.self.simulation c.args.self.now.pending.items c.resend.new.self.pending.items c.follow.new.self.pending.items c.args.client c.in_ok-message.message (Resend c.args.client) c.in_ok-message.ensures.ok c.in_ok-message.ensures.message)
 
 pub returns-clause-err : goal.returns-clause-err
 returns-clause-err g c =
-    on_err (Halts (seen_by g.D.Disk.seen) (images_by g.D.Disk.images) c.resend.new.self.simulation c.follow.new.self.simulation c.resend.new.self.pending.items c.follow.new.self.pending.items (λ run. IsFollowing run c.args.client c.in_ok-place.place)) (Halts (seen_by g.D.Disk.seen) (images_by g.D.Disk.images) c.args.self.now.simulation c.follow.new.self.simulation c.args.self.now.pending.items c.follow.new.self.pending.items (λ run. IsSending run c.args.client (Resend c.args.client))) c.follow.result c.follow.ensures.err
-    (λ halt. sent_halts (seen_by g.D.Disk.seen) (images_by g.D.Disk.images) c.args.self.now.simulation c.resend.new.self.simulation c.follow.new.self.simulation c.args.self.now.pending.items c.resend.new.self.pending.items c.follow.new.self.pending.items c.args.client c.in_ok-place.place (Resend c.args.client) halt c.in_ok-place.ensures.ok c.in_ok-place.ensures.place)
+    on_err (Halts (seen_by g.D.Disk.seen) (images_by g.D.Disk.images) c.resend.new.self.simulation c.follow.new.self.simulation c.resend.new.self.pending.items c.follow.new.self.pending.items (λ run. IsFollowing run c.args.client c.in_ok-message.message)) (Halts (seen_by g.D.Disk.seen) (images_by g.D.Disk.images) c.args.self.now.simulation c.follow.new.self.simulation c.args.self.now.pending.items c.follow.new.self.pending.items (λ run. IsSending run c.args.client (Resend c.args.client))) c.follow.result c.follow.ensures.err
+    (λ halt. sent_halts (seen_by g.D.Disk.seen) (images_by g.D.Disk.images) c.args.self.now.simulation c.resend.new.self.simulation c.follow.new.self.simulation c.args.self.now.pending.items c.resend.new.self.pending.items c.follow.new.self.pending.items c.args.client c.in_ok-message.message (Resend c.args.client) halt c.in_ok-message.ensures.ok c.in_ok-message.ensures.message)
 
 pub returns-clause-paid : goal.returns-clause-paid
 returns-clause-paid g c =
-    pays_next g.D.Disk.faults c.args.self.now.simulation.stores c.resend.new.self.simulation.stores c.follow.new.self.simulation.stores c.args.self.now.pending.items c.resend.new.self.pending.items c.follow.new.self.pending.items c.resend.ensures.paid c.follow.ensures.paid
+    pays_next g.D.Disk.faults g.D.Disk.lasts c.args.self.now.simulation.stores c.resend.new.self.simulation.stores c.follow.new.self.simulation.stores c.args.self.now.pending.items c.resend.new.self.pending.items c.follow.new.self.pending.items c.resend.ensures.paid c.follow.ensures.paid

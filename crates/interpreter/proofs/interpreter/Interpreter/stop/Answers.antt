@@ -1,11 +1,11 @@
-use Rattle.simulation.specs.Fuses.{seen_by, images_by}
+use Rattle.pasts.specs.Fuses.{seen_by, images_by}
 use Rattle.world.specs.declared.event.Event.TheVariants.{Stop}
 use Rattle.world.specs.declared.event.StopCause.TheVariants.{Asked}
 use Rattle.node_store.proofs.Restarting.{err_at}
-use Rattle.interpreter.proofs.Happening.{full_event}
+use Rattle.interpreter.proofs.EventHappens.{full_event}
 use Rattle.std.proofs.Common.{refl}
-use Rattle.simulation.specs.Licences.{none_at}
-use Rattle.interpreter.proofs.Paying.{pays_same, pays_none}
+use Rattle.simulation.specs.Payments.{none_at}
+use Rattle.interpreter.proofs.Payments.{pays_same, pays_none}
 use Rattle.interpreter.proofs.interpreter.Interpreter.stop.Goals as goal
 
 pub returns-in_err-admit-clause-err : goal.returns-in_err-admit-clause-err
@@ -15,8 +15,8 @@ returns-in_err-admit-clause-err g c =
 
 pub returns-in_err-admit-clause-paid : goal.returns-in_err-admit-clause-paid
 returns-in_err-admit-clause-paid g c =
-    pays_same g.D.Disk.faults c.args.self.now.simulation.stores c.args.self.now.simulation.stores c.args.self.now.pending.items c.args.self.now.pending.items refl refl
+    pays_same g.D.Disk.faults g.D.Disk.lasts c.args.self.now.simulation.stores c.args.self.now.simulation.stores c.args.self.now.pending.items c.args.self.now.pending.items refl refl
 
 pub returns-clause-paid : goal.returns-clause-paid
 returns-clause-paid g c =
-    pays_none g.D.Disk.faults c.args.self.now.simulation.stores c.stop.new.self.stores c.args.self.now.pending.items c.args.self.now.pending.items none_at none_at c.stop.ensures.licensed refl
+    pays_none g.D.Disk.faults g.D.Disk.lasts c.args.self.now.simulation.stores c.stop.new.self.stores c.args.self.now.pending.items c.args.self.now.pending.items none_at none_at c.stop.ensures.paid refl

@@ -5,7 +5,6 @@ use Rattle.std.proofs.lemmas.Bool.{and_parts, and_from, eq-eqb, eqb-true}
 use Rattle.std.proofs.lemmas.Option.{same_Some}
 use Rattle.mds_out.specs.Disk.{Image, Contents}
 use Rattle.client_core.specs.declared.client.Pending.{Pending}
-use Rattle.client_core.specs.Clients.{ClientV}
 use Rattle.node_core.specs.Nodes.{has_numbers}
 use Rattle.node_store.specs.Store.{Store}
 use Rattle.node_core.specs.Rules.{is_served}
@@ -18,26 +17,15 @@ use Rattle.world.specs.declared.state.ClientState.{ClientState}
 use Rattle.world.specs.Events.{seat_at, is_one, is_open, is_up, can_serve, is_for_server, is_for_client}
 use Rattle.simulation.specs.Calls.{taken_of}
 use Rattle.simulation.specs.Runs.{RunV, is_named}
-use Rattle.simulation.specs.Shows.{SimulationV, Shows, IsServerAt, IsServer, IsDue, client_at, is_idle, is_busy, server_for, store_is_up, up_has_numbers, store_has_numbers, has_numbers_at}
+use Rattle.simulation.specs.Shows.{SimulationV, Shows, IsDue, client_at, is_idle, is_busy, server_for, store_is_up, up_has_numbers, store_has_numbers, has_numbers_at}
+use Rattle.pasts.specs.Servers.{IsServerAt, IsServer}
 use Rattle.simulation.specs.Shows as shown
-use Rattle.simulation.proofs.Seats.{clients_of}
+use Rattle.simulation.proofs.ClientsShown as seats
+use Rattle.simulation.proofs.ClientsShown.{client_in}
 use Rattle.interpreter.specs.Steps.{allows}
 use Rattle.interpreter.specs.Story.{seat_is_idle, seat_is_busy, taken_by, up_at, is_due, is_allowed}
 
 -- ---- clients
-
-abbrev pub client_in : Option ClientState → Option ClientV
-client_in None = None
-client_in (Some seat) = Some seat.client
-
-client_in_at : (seats : List ClientState) (k : ℕ) → slice_get (clients_of seats) k ≡ client_in (slice_get seats k)
-client_in_at [] k = refl
-client_in_at (seat ∷ seats) zero = refl
-client_in_at (seat ∷ seats) (suc k) = client_in_at seats k
-
-client_in_seat : (seats : List ClientState) (number : ℕ) → client_at (clients_of seats) number ≡ client_in (seat_at seats number)
-client_in_seat seats zero = refl
-client_in_seat seats (suc k) = client_in_at seats k
 
 pub open_is_some : (pending : Option Pending) → is_some pending ≡ is_open pending
 open_is_some None = refl
@@ -105,12 +93,9 @@ up_below (store ∷ stores) (suc k) e = let h = up_below stores k e in omega (ar
 
 -- ---- messages
 
-number_is : (a b : ℕ) → (a == b) ≡ true → a ≡ b
-number_is a b e = eqb-true a b e
-
 for_one : (server : ℕ) (to : Option ℕ) → is_one server to ≡ true → to ≡ Some server
 for_one server None e = cc
-for_one server (Some to) e = ap (λ s. Some s) (number_is to server e)
+for_one server (Some to) e = ap (λ s. Some s) (eqb-true to server e)
 
 for_server : (server : ℕ) (msg : Option Msg) → is_for_server server msg ≡ true → server_for msg ≡ Some server
 for_server server None e = cc
@@ -131,7 +116,7 @@ server_of server (Some msg) e = one_of server (server_of_msg msg) e
 
 module _ {X : Type 0} (seen : X → Contents) (images : X → Image → Type 0) (sim : SimulationV X) (run : RunV) (shows : Shows seen images sim run) where
   pub client_is : (number : ℕ) → client_at sim.clients number ≡ client_in (seat_at run.trace.world.clients number)
-  client_is number = ap (λ l. client_at l number) (sym shows.clients) ∙ client_in_seat run.trace.world.clients number
+  client_is number = seats.client_is run.trace.world.clients sim.clients number shows.clients
 
   pub seen_idle : (number : ℕ) → is_idle (client_at sim.clients number) ≡ seat_is_idle (seat_at run.trace.world.clients number)
   seen_idle number = ap is_idle (client_is number) ∙ idle_in (seat_at run.trace.world.clients number)
@@ -139,13 +124,13 @@ module _ {X : Type 0} (seen : X → Contents) (images : X → Image → Type 0) 
   pub seen_busy : (number : ℕ) → is_busy (client_at sim.clients number) ≡ seat_is_busy (seat_at run.trace.world.clients number)
   seen_busy number = ap is_busy (client_is number) ∙ busy_in (seat_at run.trace.world.clients number)
 
-  pub seen_msg : (place : ℕ) → slice_get sim.sent place ≡ slice_get run.trace.world.sent place
-  seen_msg place = ap (λ l. slice_get l place) (sym shows.sent)
+  pub seen_msg : (message : ℕ) → slice_get sim.sent message ≡ slice_get run.trace.world.sent message
+  seen_msg message = ap (λ l. slice_get l message) (sym shows.sent)
 
-  pub seen_taken : (number place : ℕ) → taken_of (client_at sim.clients number) (slice_get sim.sent place) ≡ taken_by (seat_at run.trace.world.clients number) (slice_get run.trace.world.sent place)
-  seen_taken number place =
-      ap (λ o. taken_of o (slice_get sim.sent place)) (client_is number) ∙ ap (taken_of (client_in (seat_at run.trace.world.clients number))) (seen_msg place)
-      ∙ taken_in (seat_at run.trace.world.clients number) (slice_get run.trace.world.sent place)
+  pub seen_taken : (number message : ℕ) → taken_of (client_at sim.clients number) (slice_get sim.sent message) ≡ taken_by (seat_at run.trace.world.clients number) (slice_get run.trace.world.sent message)
+  seen_taken number message =
+      ap (λ o. taken_of o (slice_get sim.sent message)) (client_is number) ∙ ap (taken_of (client_in (seat_at run.trace.world.clients number))) (seen_msg message)
+      ∙ taken_in (seat_at run.trace.world.clients number) (slice_get run.trace.world.sent message)
 
   servers_both : (server : ℕ) → Both (slice_get sim.stores server) (slice_get run.trace.world.servers server)
   servers_both server = both_at sim.stores run.trace.world.servers shows.servers.count server
@@ -165,8 +150,8 @@ module _ {X : Type 0} (seen : X → Contents) (images : X → Image → Type 0) 
   allows_seen (lines.Call client call) = ap (λ idle. idle && is_served call) (seen_idle client)
   allows_seen (lines.Issue client call) = ap (λ idle. idle && is_served call) (seen_idle client)
   allows_seen (lines.Retry client) = seen_busy client
-  allows_seen (lines.Deliver place) = ap (λ m. is_some (server_for m)) (seen_msg place)
-  allows_seen (lines.Take client place) = ap (is_for_client client) (seen_msg place)
+  allows_seen (lines.Deliver message) = ap (λ m. is_some (server_for m)) (seen_msg message)
+  allows_seen (lines.Take client message) = ap (is_for_client client) (seen_msg message)
   allows_seen lines.Settle = refl
   allows_seen (lines.Tick by) = refl
   allows_seen (lines.Fuse server calls) = refl
@@ -181,25 +166,25 @@ module _ {X : Type 0} (seen : X → Contents) (images : X → Image → Type 0) 
   allows_seen (lines.Promote server) = refl
 
   -- what waits for a server that is up is due
-  pub due_seen : (servers place : ℕ) → IsDue sim servers place → is_due run place ≡ true
-  due_seen servers place due =
-      let both = and_parts (is_for_server due.server (slice_get sim.sent place)) (not (is_named run.events place)) (sym (shows.waiting due.server place) ∙ due.waits) in
-      let for : server_for (slice_get run.trace.world.sent place) ≡ Some due.server = ap server_for (sym (seen_msg place)) ∙ for_server due.server (slice_get sim.sent place) both.0 in
-      and_from (up_at run.trace.world (server_for (slice_get run.trace.world.sent place))) (not (is_named run.events place)) (ap (up_at run.trace.world) for ∙ seen_up due.server ∙ due.up) both.1
+  pub due_seen : (servers message : ℕ) → IsDue sim servers message → is_due run message ≡ true
+  due_seen servers message due =
+      let both = and_parts (is_for_server due.server (slice_get sim.sent message)) (not (is_named run.events message)) (sym (shows.waiting due.server message) ∙ due.waits) in
+      let for : server_for (slice_get run.trace.world.sent message) ≡ Some due.server = ap server_for (sym (seen_msg message)) ∙ for_server due.server (slice_get sim.sent message) both.0 in
+      and_from (up_at run.trace.world (server_for (slice_get run.trace.world.sent message))) (not (is_named run.events message)) (ap (up_at run.trace.world) for ∙ seen_up due.server ∙ due.up) both.1
 
-  due_of : (place : ℕ) (o : Option ℕ) → server_for (slice_get run.trace.world.sent place) ≡ o → up_at run.trace.world o ≡ true → not (is_named run.events place) ≡ true → IsDue sim (length sim.stores) place
-  due_of place None for up unnamed = cc
-  due_of place (Some server) for up unnamed =
+  due_of : (message : ℕ) (o : Option ℕ) → server_for (slice_get run.trace.world.sent message) ≡ o → up_at run.trace.world o ≡ true → not (is_named run.events message) ≡ true → IsDue sim (length sim.stores) message
+  due_of message None for up unnamed = cc
+  due_of message (Some server) for up unnamed =
       let is_up' : shown.is_up sim server ≡ true = sym (seen_up server) ∙ up in
-      let meant : is_for_server server (slice_get sim.sent place) ≡ true = server_of server (slice_get sim.sent place) (ap server_for (seen_msg place) ∙ for) in
+      let meant : is_for_server server (slice_get sim.sent message) ≡ true = server_of server (slice_get sim.sent message) (ap server_for (seen_msg message) ∙ for) in
       record {
         server = server;
         among = up_below sim.stores server is_up';
         up = is_up';
-        waits = shows.waiting server place ∙ and_from (is_for_server server (slice_get sim.sent place)) (not (is_named run.events place)) meant unnamed;
+        waits = shows.waiting server message ∙ and_from (is_for_server server (slice_get sim.sent message)) (not (is_named run.events message)) meant unnamed;
       }
 
-  pub due_waits : length sim.stores ≡ sim.setup.servers → (place : ℕ) → is_due run place ≡ true → IsDue sim sim.setup.servers place
-  due_waits stores place due =
-      let both = and_parts (up_at run.trace.world (server_for (slice_get run.trace.world.sent place))) (not (is_named run.events place)) due in
-      subst (λ n. IsDue sim n place) stores (due_of place (server_for (slice_get run.trace.world.sent place)) refl both.0 both.1)
+  pub due_waits : length sim.stores ≡ sim.setup.servers → (message : ℕ) → is_due run message ≡ true → IsDue sim sim.setup.servers message
+  due_waits stores message due =
+      let both = and_parts (up_at run.trace.world (server_for (slice_get run.trace.world.sent message))) (not (is_named run.events message)) due in
+      subst (λ n. IsDue sim n message) stores (due_of message (server_for (slice_get run.trace.world.sent message)) refl both.0 both.1)

@@ -1,14 +1,18 @@
 -- The lines of effects: what a simulation shows of them, and that they tell of no stop.
-use Rattle.std.proofs.Common.{◌≡◌, ◌∙◌, sym, ap, refl, ℕ, ◌+◌, ◌/◌, ◌%◌, ◌==◌, List, [], ◌∷◌, ◌++◌, get_or, Bool, true, false, not, if◌then◌else◌, nat_le, nat_lt, map, filter, codes, decimal, arith}
+use Rattle.std.proofs.Common.{◌≡◌, ◌∙◌, sym, ap, refl, ℕ, ◌+◌, ◌/◌, ◌%◌, ◌==◌, ◌<◌, List, [], ◌∷◌, ◌++◌, length, take, Some, get_or, Bool, true, false, not, if◌then◌else◌, nat_le, nat_lt, map, filter, codes, decimal, arith}
 use Rattle.std.specs.Prelude.{◌&&◌}
 use Rattle.std.specs.Fmt.{digit_glyph}
-use Rattle.std.specs.List.{flat_map, list_all}
+use Rattle.std.specs.List.{flat_map, list_all, slice_get}
+use Rattle.std.proofs.lemmas.List.{append-nil, take_more}
+use Rattle.std.proofs.lemmas.Grind.{flat_map-append}
+use Rattle.std.proofs.lemmas.Option.{slice_get-get_or}
 use Rattle.std.proofs.lemmas.Bool.{and_parts, and_from, leb-true, ne_eqb}
 use Rattle.mds_base.specs.declared.entry.Entry.{Entry}
 use Rattle.script.specs.Grammar.{Part, Keyword, Number, Named, Raw, Rest, call_parts}
 use Rattle.script.specs.Text.{is_plain_byte, byte_text, name_text, part_text, parts_text, call_text, is_word}
 use Rattle.script.proofs.Printing.{is_simple, call_simple}
-use Rattle.simulation.specs.declared.made.Made.{Made}
+use Rattle.message_store.specs.declared.made.Made.{Made}
+use Rattle.message_store.specs.Made.{no_made}
 use Rattle.mds_out.specs.Disk.{Image, Contents}
 use Rattle.simulation.specs.Runs.{RunV}
 use Rattle.simulation.specs.Shows.{SimulationV, Shows, made_of, kind_of, kind_stands, stands_in}
@@ -17,12 +21,12 @@ use Rattle.world.specs.Histories.{MadeV, AnsweredV, stands, stands_as, is_taken,
 use Rattle.interpreter.specs.EventText.{effects_text}
 use Rattle.interpreter.specs.Payments.{IsPrinted, TellsNoStop, has_no_feed, times, stopped_line}
 use Rattle.interpreter.specs.Text.{reply_text, effect_line, effect_of, effects_of}
-use Rattle.interpreter.proofs.Paying.{clean_append, decimal_clean, reply_clean, other_times}
+use Rattle.interpreter.proofs.Payments.{clean_append, decimal_clean, reply_clean, other_times}
 
 module _ {X : Type 0} (seen : X → Contents) (images : X → Image → Type 0) (sim : SimulationV X) (run : RunV) (shows : Shows seen images sim run) where
   kind_same : (kind : past.Kind) → kind_stands sim.taken (kind_of kind) ≡ stands_as run.trace.past.answered kind
   kind_same past.Change = refl
-  kind_same (past.Looked place) = shows.taken place
+  kind_same (past.Looked message) = shows.taken message
 
   lines_by : (b c : Bool) (made : MadeV) (rest : List MadeV) → b ≡ c → (if b then effect_line made.entry else []) ++ effects_of (entries_of rest) ≡ effects_of (entries_of (if c then made ∷ rest else rest))
   lines_by b true made rest is = ap (λ b. (if b then effect_line made.entry else []) ++ effects_of (entries_of rest)) is
@@ -36,6 +40,16 @@ module _ {X : Type 0} (seen : X → Contents) (images : X → Image → Type 0) 
 
   pub effects_shown : flat_map (effect_of sim) sim.made ≡ effects_text run.trace.past
   effects_shown = ap (flat_map (effect_of sim)) (sym shows.made) ∙ lines_of run.trace.past.made
+
+-- the lines of one entry more
+pub effects_more : {X : Type 0} (sim : SimulationV X) (k : ℕ) (text text' : List ℕ) → k < length sim.made → text ≡ flat_map (effect_of sim) (take k sim.made)
+    → ((m : Made) → slice_get sim.made k ≡ Some m → text' ≡ text ++ effect_of sim m) → text' ≡ flat_map (effect_of sim) (take (k + 1) sim.made)
+effects_more sim k text text' below so_far more =
+    let m = get_or sim.made k no_made in
+    more m (slice_get-get_or sim.made k no_made below)
+    ∙ ap (λ t. t ++ effect_of sim m) so_far
+    ∙ ap (λ t. flat_map (effect_of sim) (take k sim.made) ++ t) (sym (append-nil (effect_of sim m)))
+    ∙ sym (ap (flat_map (effect_of sim)) (take_more sim.made k no_made below) ∙ flat_map-append (effect_of sim) (take k sim.made) (m ∷ []))
 
 -- ---- they tell of no stop
 

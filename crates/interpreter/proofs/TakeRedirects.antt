@@ -25,7 +25,8 @@ use Rattle.world.specs.Worlds.{WorldV}
 use Rattle.interpreter.specs.EventText.{take_text, event_text}
 use Rattle.interpreter.specs.Story.{taken_by, is_redirected, redirects, seat_is_busy}
 use Rattle.interpreter.specs.Text.{taken_line}
-use Rattle.interpreter.proofs.Sights.{client_in, open_is_some, client_is, seen_busy, seen_taken}
+use Rattle.simulation.proofs.ClientsShown.{client_in}
+use Rattle.interpreter.proofs.WorldSeen.{open_is_some, client_is, seen_busy, seen_taken}
 
 -- ---- the line
 
@@ -87,13 +88,13 @@ busy_then seats number seat msg is e =
     ∙ sym (open_is_some (taking.take seat.client msg).client.pending) ∙ redirected_at_open seat.client seat.client.pending msg e
 
 -- .. by what the world was
-busy_by : (run : RunV) (number place : ℕ) (seat : Option ClientState) (msg : Option Msg) → seat_at run.trace.world.clients number ≡ seat → slice_get run.trace.world.sent place ≡ msg → is_redirected (taken_by seat msg) ≡ true
-    → seat_is_busy (seat_at (grown run (Take number place)).trace.world.clients number) ≡ true
-busy_by run number place None msg is there e = cc
-busy_by run number place (Some seat) None is there e = cc
-busy_by run number place (Some seat) (Some msg) is there e =
+busy_by : (run : RunV) (number message : ℕ) (seat : Option ClientState) (msg : Option Msg) → seat_at run.trace.world.clients number ≡ seat → slice_get run.trace.world.sent message ≡ msg → is_redirected (taken_by seat msg) ≡ true
+    → seat_is_busy (seat_at (grown run (Take number message)).trace.world.clients number) ≡ true
+busy_by run number message None msg is there e = cc
+busy_by run number message (Some seat) None is there e = cc
+busy_by run number message (Some seat) (Some msg) is there e =
     ap (λ (w : WorldV). seat_is_busy (seat_at w.clients number))
-    (ap (events.after_take run.trace.world number (slice_get run.trace.world.sent place)) is ∙ ap (events.after_take_of run.trace.world number seat) there)
+    (ap (events.after_take run.trace.world number (slice_get run.trace.world.sent message)) is ∙ ap (events.after_take_of run.trace.world number seat) there)
     ∙ busy_then run.trace.world.clients number seat msg is e
 
 and_same : (busy redirected : Bool) → (redirected ≡ true → busy ≡ true) → (busy && redirected) ≡ redirected
@@ -102,19 +103,19 @@ and_same true false holds = refl
 and_same false true holds = holds refl
 and_same false false holds = refl
 
-module _ {X : Type 0} (seen : X → Contents) (images : X → Image → Type 0) (old new : SimulationV X) (number place : ℕ) where
+module _ {X : Type 0} (seen : X → Contents) (images : X → Image → Type 0) (old new : SimulationV X) (number message : ℕ) where
   -- the line of a client that took a message
-  pub take_line : (client : ClientV) (taken : Taken) → client_at old.clients number ≡ Some client → taken_of (client_at old.clients number) (slice_get old.sent place) ≡ Some taken
-      → (run : RunV) → Shows seen images old run → event_text run.trace.world (Take number place) ≡ taken_line number client.seq taken
+  pub take_line : (client : ClientV) (taken : Taken) → client_at old.clients number ≡ Some client → taken_of (client_at old.clients number) (slice_get old.sent message) ≡ Some taken
+      → (run : RunV) → Shows seen images old run → event_text run.trace.world (Take number message) ≡ taken_line number client.seq taken
   take_line client taken is took run shows =
-      line_in number (seat_at run.trace.world.clients number) (slice_get run.trace.world.sent place) client taken (sym (seen_taken seen images old run shows number place) ∙ took)
+      line_in number (seat_at run.trace.world.clients number) (slice_get run.trace.world.sent message) client taken (sym (seen_taken seen images old run shows number message) ∙ took)
       (λ s e. ap (λ (c : ClientV). c.seq) (same_Some s.client client (sym (ap client_in e) ∙ sym (client_is seen images old run shows number) ∙ is)))
 
   -- whether the client is redirected, by whether it has a call open afterwards
-  pub take_redirects : (taken : Taken) (busy : Bool) → taken_of (client_at old.clients number) (slice_get old.sent place) ≡ Some taken → is_busy (client_at new.clients number) ≡ busy → shown.Happens seen images old new (Take number place)
-      → (run : RunV) → Shows seen images old run → (busy && is_redirected (Some taken)) ≡ redirects run.trace.world number place
+  pub take_redirects : (taken : Taken) (busy : Bool) → taken_of (client_at old.clients number) (slice_get old.sent message) ≡ Some taken → is_busy (client_at new.clients number) ≡ busy → shown.Happens seen images old new (Take number message)
+      → (run : RunV) → Shows seen images old run → (busy && is_redirected (Some taken)) ≡ redirects run.trace.world number message
   take_redirects taken busy took is happens run shows =
-      let same : is_redirected (Some taken) ≡ redirects run.trace.world number place = ap is_redirected (sym took ∙ seen_taken seen images old run shows number place) in
+      let same : is_redirected (Some taken) ≡ redirects run.trace.world number message = ap is_redirected (sym took ∙ seen_taken seen images old run shows number message) in
       and_same busy (is_redirected (Some taken))
-      (λ e. sym is ∙ seen_busy seen images new (grown run (Take number place)) (happens run shows).then number ∙ busy_by run number place _ _ refl refl (sym same ∙ e))
+      (λ e. sym is ∙ seen_busy seen images new (grown run (Take number message)) (happens run shows).then number ∙ busy_by run number message _ _ refl refl (sym same ∙ e))
       ∙ same

@@ -1,17 +1,22 @@
 -- Events that happen one after another, and their text.
-use Rattle.std.proofs.Common.{◌≡◌, ◌∙◌, sym, ap, subst, refl, ℕ, ◌+◌, true, List, [], ◌∷◌, ◌++◌, length, inl, append_assoc, arith}
+use Rattle.std.proofs.Common.{◌≡◌, ◌∙◌, sym, ap, subst, refl, ℕ, ◌+◌, ◌<◌, ◌≤◌, true, List, [], ◌∷◌, ◌++◌, length, inl, append_assoc, arith}
 use Rattle.std.proofs.lemmas.Bool.{and_parts, and_from}
 use Rattle.std.proofs.lemmas.List.{append-nil, length-append}
+use Rattle.mds_base.specs.declared.limits.TheConstants.{EVENTS}
 use Rattle.mds_base.specs.declared.setup.Which.{Which}
+use Rattle.mds_base.specs.declared.setup.Which.TheVariants as limits
 use Rattle.mds_out.specs.Disk.{Image, Contents}
 use Rattle.simulation.specs.Runs.{RunV, GoesOn, grown}
 use Rattle.simulation.specs.Shows.{SimulationV, Shows, StandNear}
 use Rattle.world.specs.declared.event.Event.{Event}
+use Rattle.world.specs.declared.event.Event.TheVariants.{Serve, Tick}
+use Rattle.world.specs.declared.event.ServeEnd.{ServeEnd}
 use Rattle.world.specs.Events.{enabled}
+use Rattle.simulation.proofs.EventRun.{near_kind}
 use Rattle.interpreter.specs.declared.interpreter.Halt.{Halt}
 use Rattle.interpreter.specs.declared.interpreter.Halt.TheVariants as halts
 use Rattle.interpreter.specs.EventText.{event_text, events_text}
-use Rattle.interpreter.specs.Steps.{Goes, GoesBy, HaltsBy, HaltsAt, Passes, PutsFront}
+use Rattle.interpreter.specs.Steps.{Goes, GoesBy, HaltsBy, HaltsAt, Passes, PassesFirst, PutsFront, rank}
 use Rattle.interpreter.specs.Story.{grown_by, all_may}
 
 -- ---- events, and events after them
@@ -39,6 +44,44 @@ grown_length run (event ∷ events) =
     let one = length-append run.events (event ∷ []) in
     let more = grown_length (grown run event) events in
     omega (arith, one, more)
+
+-- ---- the limit that is named
+
+none_below : (n : ℕ) → n < 0 → ⊥
+none_below n less = omega arith
+
+not_below : (n : ℕ) → n < n → ⊥
+not_below n less = omega arith
+
+not_full : (n : ℕ) → n < EVENTS → EVENTS ≤ n → ⊥
+not_full n room full = omega arith
+
+-- that of events is named before all others
+pub events_first : (run : RunV) (event : Event) → EVENTS ≤ length run.events → PassesFirst limits.Events run event
+events_first run event full = record { passes = full; first = λ other less passes. none_below (rank other) less }
+
+-- others are where there is room for an event
+module _ (run : RunV) (room : length run.events < EVENTS) where
+  pub moment_first : (by : ℕ) → Passes limits.Moment run (Tick by) → PassesFirst limits.Moment run (Tick by)
+  moment_first by late = record { passes = late; first = before }
+    where
+      before : (other : Which) → rank other < rank limits.Moment → Passes other run (Tick by) → ⊥
+      before limits.Events less passes = not_full (length run.events) room passes
+      before limits.Moment less passes = not_below 1 less
+      before limits.Directories less passes = passes
+      before limits.Rows less passes = passes
+      before limits.Lines less passes = passes
+
+  pub numbers_first : (server : ℕ) (places : List ℕ) (how : ServeEnd) → Passes limits.Directories run (Serve server places how)
+      → PassesFirst limits.Directories run (Serve server places how)
+  numbers_first server places how few = record { passes = few; first = before }
+    where
+      before : (other : Which) → rank other < rank limits.Directories → Passes other run (Serve server places how) → ⊥
+      before limits.Events less passes = not_full (length run.events) room passes
+      before limits.Moment less passes = passes
+      before limits.Directories less passes = not_below 2 less
+      before limits.Rows less passes = passes
+      before limits.Lines less passes = passes
 
 -- ---- what was carried out
 
@@ -89,10 +132,10 @@ module _ {X : Type 0} (seen : X → Contents) (images : X → Image → Type 0) 
     record {
       next = h.1.next;
       comes = subst Q (sym (append_assoc events more (h.1.next ∷ []))) (lift (more ++ h.1.next ∷ []) h.1.comes);
-      passes = subst (λ r. Passes which r h.1.next) (sym (grown_append run events more)) h.1.passes;
+      passes = subst (λ r. PassesFirst which r h.1.next) (sym (grown_append run events more)) h.1.passes;
     },
   )
-  at_behind mid new was at now run events more P Q (halts.Damaged server file place damage) g lift h = h
+  at_behind mid new was at now run events more P Q (halts.Damaged server file offset damage) g lift h = h
   at_behind mid new was at now run events more P Q halts.OutOfMemory g lift h = tt
 
   pub halts_behind : (mid new : SimulationV X) (was at now : List ℕ) (run : RunV) (events : List Event) (P Q : List Event → Type 0) (halt : Halt) → Goes seen images mid was at run events → ((es : List Event) → P es → Q (events ++ es))
@@ -101,7 +144,10 @@ module _ {X : Type 0} (seen : X → Contents) (images : X → Image → Type 0) 
     events = events ++ h.events;
     are = lift h.events h.are;
     may = may_append run events h.events g.may h.may;
-    near = subst (StandNear seen images new.setup new.stores) (sym (grown_append run events h.events)) h.near;
+    few = subst (λ r. length r.events ≤ EVENTS) (sym (grown_append run events h.events)) h.few;
+    near = subst (StandNear seen images new.setup new.stores (λ e. Q ((events ++ h.events) ++ e ∷ []))) (sym (grown_append run events h.events))
+        (near_kind seen images new.setup new.stores (λ e. P (h.events ++ e ∷ [])) (λ e. Q ((events ++ h.events) ++ e ∷ [])) (grown_by (grown_by run events) h.events)
+        (λ e may is. subst Q (sym (append_assoc events h.events (e ∷ []))) (lift (h.events ++ e ∷ []) is)) h.near);
     text = subst (PutsFront was now) (sym (text_append run events h.events)) (front_behind was at now (events_text run events) (events_text (grown_by run events) h.events) g.text h.text);
     at = at_behind mid new was at now run events h.events P Q halt g lift h.at;
   }
@@ -110,32 +156,34 @@ module _ {X : Type 0} (seen : X → Contents) (images : X → Image → Type 0) 
       → HaltsAt seen images new was now run events P halt → HaltsAt seen images new was now run events Q halt
   kind_at new was now run events P Q (halts.Limit which) lift h =
       (h.0, record { next = h.1.next; comes = lift (events ++ h.1.next ∷ []) h.1.comes; passes = h.1.passes })
-  kind_at new was now run events P Q (halts.Damaged server file place damage) lift h = h
+  kind_at new was now run events P Q (halts.Damaged server file offset damage) lift h = h
   kind_at new was now run events P Q halts.OutOfMemory lift h = tt
 
   pub halts_kind : (new : SimulationV X) (was now : List ℕ) (run : RunV) (P Q : List Event → Type 0) (halt : Halt) → ((es : List Event) → P es → Q es) → HaltsBy seen images new was now run P halt → HaltsBy seen images new was now run Q halt
   halts_kind new was now run P Q halt lift h =
-      record { events = h.events; are = lift h.events h.are; may = h.may; near = h.near; text = h.text; at = kind_at new was now run h.events P Q halt lift h.at }
+      record { events = h.events; are = lift h.events h.are; may = h.may; few = h.few; near = near_kind seen images new.setup new.stores (λ e. P (h.events ++ e ∷ [])) (λ e. Q (h.events ++ e ∷ [])) (grown_by run h.events) (λ e may is. lift (h.events ++ e ∷ []) is) h.near; text = h.text; at = kind_at new was now run h.events P Q halt lift h.at }
 
   -- before anything happened, the next event would pass a limit
-  pub halts_limit : (new : SimulationV X) (was now : List ℕ) (run : RunV) (P : List Event → Type 0) (which : Which) (next : Event) → Shows seen images new run → now ≡ was → P [] → P (next ∷ []) → Passes which run next
+  pub halts_limit : (new : SimulationV X) (was now : List ℕ) (run : RunV) (P : List Event → Type 0) (which : Which) (next : Event) → Shows seen images new run → now ≡ was → P [] → P (next ∷ []) → PassesFirst which run next
       → HaltsBy seen images new was now run P (halts.Limit which)
   halts_limit new was now run P which next shows same none comes passes = record {
     events = [];
     are = none;
     may = refl;
+    few = shows.few;
     near = inl shows.servers;
     text = record { front = []; rest = []; whole = refl; pending = same ∙ sym (append-nil was) };
     at = (goes_none new was now run shows same, record { next = next; comes = comes; passes = passes });
   }
 
   -- .. there was no memory, or damage
-  pub halts_near : (new : SimulationV X) (was now : List ℕ) (run : RunV) (P : List Event → Type 0) (halt : Halt) → StandNear seen images new.setup new.stores run → now ≡ was → P [] → HaltsAt seen images new was now run [] P halt
+  pub halts_near : (new : SimulationV X) (was now : List ℕ) (run : RunV) (P : List Event → Type 0) (halt : Halt) → length run.events ≤ EVENTS → StandNear seen images new.setup new.stores (λ e. P (e ∷ [])) run → now ≡ was → P [] → HaltsAt seen images new was now run [] P halt
       → HaltsBy seen images new was now run P halt
-  halts_near new was now run P halt near same none at = record {
+  halts_near new was now run P halt few near same none at = record {
     events = [];
     are = none;
     may = refl;
+    few = few;
     near = near;
     text = record { front = []; rest = []; whole = refl; pending = same ∙ sym (append-nil was) };
     at = at;
@@ -147,6 +195,7 @@ module _ {X : Type 0} (seen : X → Contents) (images : X → Image → Type 0) 
     events = event ∷ [];
     are = are;
     may = and_from _ _ goes.may refl;
+    few = goes.then.few;
     near = inl goes.then.servers;
     text = record { front = []; rest = events_text run (event ∷ []); whole = refl; pending = same ∙ sym (append-nil was) };
     at = tt;

@@ -20,12 +20,13 @@ use Rattle.client_core.specs.declared.taken.Taken.{Taken}
 use Rattle.client_core.specs.declared.taken.Taken.TheVariants as takes
 use Rattle.mds_out.specs.Fused.{Fused}
 use Rattle.node_store.specs.Store.{Store}
-use Rattle.simulation.specs.Licences.{IsLicensed, AreLicensed, own_faults, armed_of, none_at, once_at}
-use Rattle.simulation.proofs.Licensing.{licensed_on, are_licensed_same}
+use Rattle.simulation.specs.Payments.{IsPaid, ArePaid, own_faults, armed_of, none_at, once_at}
+use Rattle.simulation.proofs.Payments.{is_paid_on, are_paid_same}
 use Rattle.script.specs.declared.line.Line.{Line}
 use Rattle.simulation.specs.Shows.{SimulationV}
+use Rattle.script.specs.Text.{stamp_text}
 use Rattle.interpreter.specs.Payments.{IsPrinted, Pays, fuses_of, has_no_feed, text_of, times, stopped_line}
-use Rattle.interpreter.specs.Text.{stamp_text, kind_text, final_text, reply_text, taken_line, server_line}
+use Rattle.interpreter.specs.Text.{kind_text, final_text, reply_text, taken_line, server_line}
 
 -- ---- bytes of a line
 
@@ -55,8 +56,7 @@ decimal_clean n = onto_clean 64 n [] refl
 
 pub stamp_clean : (stamp : Option Stamp) → has_no_feed (stamp_text stamp) ≡ true
 stamp_clean None = refl
-stamp_clean (Some stamp) = clean_append (codes " " ++ decimal stamp.owner ++ codes " ") (decimal stamp.mtime)
-    (clean_append (codes " " ++ decimal stamp.owner) (codes " ") (clean_append (codes " ") (decimal stamp.owner) refl (decimal_clean stamp.owner)) refl) (decimal_clean stamp.mtime)
+stamp_clean (Some stamp) = clean_append (decimal stamp.owner) (32 ∷ decimal stamp.mtime) (decimal_clean stamp.owner) (decimal_clean stamp.mtime)
 
 -- a mode and a size behind other words
 sized_clean : (kind : List ℕ) (attr : Attr) → has_no_feed kind ≡ true → has_no_feed (kind ++ codes " " ++ decimal attr.mode ++ codes " " ++ decimal attr.size) ≡ true
@@ -178,49 +178,49 @@ each_append (x ∷ xs) ys h k = (h.0, each_append xs ys h.1 k)
 pub text_append : (xs ys : List (List ℕ)) → text_of (xs ++ ys) ≡ text_of xs ++ text_of ys
 text_append xs ys = flat_map-append {X = List ℕ} {A = ℕ} (λ l. l) xs ys
 
-module _ {D : Type 0} (faults : D → ℕ) where
+module _ {D : Type 0} (faults : D → ℕ) (lasts : D → D → Type 0) where
   -- fewer stops are paid too
-  pub licensed_fewer : (a b : Option (Store (Fused D))) (m n f : ℕ) → m ≤ n → IsLicensed faults a b n f → IsLicensed faults a b m f
-  licensed_fewer a b m n f fewer one = record { later = one.later; paid = paid_still one.paid }
+  pub is_paid_fewer : (a b : Option (Store (Fused D))) (m n f : ℕ) → m ≤ n → IsPaid faults lasts a b n f → IsPaid faults lasts a b m f
+  is_paid_fewer a b m n f fewer one = record { on = one.on; later = one.later; paid = paid_still one.paid }
     where
       paid_still : (n + (armed_of b + own_faults faults a) ≤ own_faults faults b + (armed_of a + f)) ⊎ (2 ^ 64 - 1 ≤ own_faults faults b) → (m + (armed_of b + own_faults faults a) ≤ own_faults faults b + (armed_of a + f)) ⊎ (2 ^ 64 - 1 ≤ own_faults faults b)
       paid_still (inl p) = inl (omega (arith, p, fewer))
       paid_still (inr p) = inr p
 
   pays_by : (old new : List (Store (Fused D))) (was now : List ℕ) (stops fuses : ℕ → ℕ) (printed : List (List ℕ)) → AllByRecursion IsPrinted printed → now ≡ was ++ text_of printed → ((s : ℕ) → s < 2 ^ 64 → times (stopped_line s) printed ≤ stops s)
-      → AreLicensed faults old new stops fuses → Pays faults old new was now fuses
+      → ArePaid faults lasts old new stops fuses → Pays faults lasts old new was now fuses
   pays_by old new was now stops fuses printed each text few are = record {
     printed = printed;
     each = each;
     text = text;
-    licensed = λ s small. licensed_fewer (slice_get old s) (slice_get new s) (times (stopped_line s) printed) (stops s) (fuses s) (few s small) (are s);
+    paid = λ s small. is_paid_fewer (slice_get old s) (slice_get new s) (times (stopped_line s) printed) (stops s) (fuses s) (few s small) (are s);
   }
 
   -- nothing was printed
-  pub pays_none : (old new : List (Store (Fused D))) (was now : List ℕ) (stops fuses : ℕ → ℕ) → AreLicensed faults old new stops fuses → now ≡ was → Pays faults old new was now fuses
+  pub pays_none : (old new : List (Store (Fused D))) (was now : List ℕ) (stops fuses : ℕ → ℕ) → ArePaid faults lasts old new stops fuses → now ≡ was → Pays faults lasts old new was now fuses
   pays_none old new was now stops fuses are same = pays_by old new was now stops fuses [] tt (same ∙ sym (append-nil was)) (λ s small. least (stops s)) are
 
   -- one line
   pays_one : (old new : List (Store (Fused D))) (was now : List ℕ) (stops fuses : ℕ → ℕ) (line : List ℕ) → IsPrinted line → now ≡ was ++ line → ((s : ℕ) → s < 2 ^ 64 → times (stopped_line s) (line ∷ []) ≤ stops s)
-      → AreLicensed faults old new stops fuses → Pays faults old new was now fuses
+      → ArePaid faults lasts old new stops fuses → Pays faults lasts old new was now fuses
   pays_one old new was now stops fuses line one text few are = pays_by old new was now stops fuses (line ∷ []) (one, tt) (text ∙ ap (λ l. was ++ l) (sym (append-nil line))) few are
 
   -- the stores are the same, and nothing was printed, or a line that tells of no stop
-  pub pays_same : (old new : List (Store (Fused D))) (was now : List ℕ) → new ≡ old → now ≡ was → Pays faults old new was now none_at
-  pays_same old new was now stores same = pays_none old new was now none_at none_at (are_licensed_same faults old new stores) same
+  pub pays_same : (old new : List (Store (Fused D))) (was now : List ℕ) → new ≡ old → now ≡ was → Pays faults lasts old new was now none_at
+  pays_same old new was now stores same = pays_none old new was now none_at none_at (are_paid_same faults lasts old new stores) same
 
-  pub pays_down : (old new : List (Store (Fused D))) (was now : List ℕ) (server : ℕ) → new ≡ old → now ≡ was ++ server_line (codes "down ") server → Pays faults old new was now none_at
+  pub pays_down : (old new : List (Store (Fused D))) (was now : List ℕ) (server : ℕ) → new ≡ old → now ≡ was ++ server_line (codes "down ") server → Pays faults lasts old new was now none_at
   pays_down old new was now server stores text =
       pays_one old new was now none_at none_at (server_line (codes "down ") server) (server_printed (codes "down ") server refl) text
-      (λ s small. other_times (server_line (codes "down ") server) not_down s) (are_licensed_same faults old new stores)
+      (λ s small. other_times (server_line (codes "down ") server) not_down s) (are_paid_same faults lasts old new stores)
 
   pays_client : (old new : List (Store (Fused D))) (was now : List ℕ) (client seq : ℕ) (text : List ℕ) → client < 2 ^ 64 → has_no_feed text ≡ true → new ≡ old → now ≡ was ++ (decimal client ++ codes " " ++ decimal seq ++ codes " " ++ text ++ codes "\n")
-      → Pays faults old new was now none_at
+      → Pays faults lasts old new was now none_at
   pays_client old new was now client seq text low clean stores is =
       pays_one old new was now none_at none_at (decimal client ++ codes " " ++ decimal seq ++ codes " " ++ text ++ codes "\n") (client_printed client seq text clean) is
-      (λ s small. other_times (decimal client ++ codes " " ++ decimal seq ++ codes " " ++ text ++ codes "\n") (client_other client seq text low) s) (are_licensed_same faults old new stores)
+      (λ s small. other_times (decimal client ++ codes " " ++ decimal seq ++ codes " " ++ text ++ codes "\n") (client_other client seq text low) s) (are_paid_same faults lasts old new stores)
 
-  pub pays_taken : (old new : List (Store (Fused D))) (was now : List ℕ) (client seq : ℕ) (taken : Taken) → client < 2 ^ 64 → new ≡ old → now ≡ was ++ taken_line client seq taken → Pays faults old new was now none_at
+  pub pays_taken : (old new : List (Store (Fused D))) (was now : List ℕ) (client seq : ℕ) (taken : Taken) → client < 2 ^ 64 → new ≡ old → now ≡ was ++ taken_line client seq taken → Pays faults lasts old new was now none_at
   pays_taken old new was now client seq (takes.Answer reply) low stores is = pays_client old new was now client seq (reply_text reply) low (reply_clean reply) stores is
   pays_taken old new was now client seq (takes.Redirected part) low stores is = pays_client old new was now client seq (codes "redirect " ++ decimal part) low (decimal_clean part) stores is
   pays_taken old new was now client seq (takes.Busy part) low stores is = pays_client old new was now client seq (codes "busy " ++ decimal part) low (decimal_clean part) stores is
@@ -229,27 +229,27 @@ module _ {D : Type 0} (faults : D → ℕ) where
   pays_taken old new was now client seq takes.Ignored low stores is = pays_same old new was now stores (is ∙ append-nil was)
 
   -- a stop was printed
-  pub pays_stop : (old new : List (Store (Fused D))) (was now : List ℕ) (server : ℕ) → server < 2 ^ 64 → AreLicensed faults old new (once_at server) none_at → now ≡ was ++ stopped_line server → Pays faults old new was now none_at
+  pub pays_stop : (old new : List (Store (Fused D))) (was now : List ℕ) (server : ℕ) → server < 2 ^ 64 → ArePaid faults lasts old new (once_at server) none_at → now ≡ was ++ stopped_line server → Pays faults lasts old new was now none_at
   pays_stop old new was now server low are text =
       pays_one old new was now (once_at server) none_at (stopped_line server) (server_printed (codes "stopped ") server refl) text (λ s small. stop_times s server small low) are
 
   -- one moment after another
-  pub pays_both : (a b c : List (Store (Fused D))) (p q r : List ℕ) (f g : ℕ → ℕ) → Pays faults a b p q f → Pays faults b c q r g → Pays faults a c p r (λ s. f s + g s)
+  pub pays_both : (a b c : List (Store (Fused D))) (p q r : List ℕ) (f g : ℕ → ℕ) → Pays faults lasts a b p q f → Pays faults lasts b c q r g → Pays faults lasts a c p r (λ s. f s + g s)
   pays_both a b c p q r f g one two = record {
     printed = one.printed ++ two.printed;
     each = each_append one.printed two.printed one.each two.each;
     text = two.text ∙ ap (λ t. t ++ text_of two.printed) one.text ∙ append_assoc p (text_of one.printed) (text_of two.printed) ∙ ap (λ t. p ++ t) (sym (text_append one.printed two.printed));
-    licensed = λ s small. subst (λ n. IsLicensed faults (slice_get a s) (slice_get c s) n (f s + g s)) (sym (times_append (stopped_line s) one.printed two.printed))
-        (licensed_on faults (slice_get a s) (slice_get b s) (slice_get c s) (times (stopped_line s) one.printed) (times (stopped_line s) two.printed) (f s) (g s) (one.licensed s small) (two.licensed s small));
+    paid = λ s small. subst (λ n. IsPaid faults lasts (slice_get a s) (slice_get c s) n (f s + g s)) (sym (times_append (stopped_line s) one.printed two.printed))
+        (is_paid_on faults lasts (slice_get a s) (slice_get b s) (slice_get c s) (times (stopped_line s) one.printed) (times (stopped_line s) two.printed) (f s) (g s) (one.paid s small) (two.paid s small));
   }
 
-  pub pays_next : (a b c : List (Store (Fused D))) (p q r : List ℕ) → Pays faults a b p q none_at → Pays faults b c q r none_at → Pays faults a c p r none_at
+  pub pays_next : (a b c : List (Store (Fused D))) (p q r : List ℕ) → Pays faults lasts a b p q none_at → Pays faults lasts b c q r none_at → Pays faults lasts a c p r none_at
   pays_next a b c p q r one two = pays_both a b c p q r none_at none_at one two
 
   -- a simulation that is the same has the same stores
-  pub pays_at : (old : List (Store (Fused D))) (mid new : SimulationV (Fused D)) (was now : List ℕ) (fuses : ℕ → ℕ) → new ≡ mid → Pays faults old mid.stores was now fuses → Pays faults old new.stores was now fuses
-  pays_at old mid new was now fuses same pays = subst (λ (s : SimulationV (Fused D)). Pays faults old s.stores was now fuses) (sym same) pays
+  pub pays_at : (old : List (Store (Fused D))) (mid new : SimulationV (Fused D)) (was now : List ℕ) (fuses : ℕ → ℕ) → new ≡ mid → Pays faults lasts old mid.stores was now fuses → Pays faults lasts old new.stores was now fuses
+  pays_at old mid new was now fuses same pays = subst (λ (s : SimulationV (Fused D)). Pays faults lasts old s.stores was now fuses) (sym same) pays
 
   -- by the line that was carried out
-  pub pays_line : (old new : List (Store (Fused D))) (was now : List ℕ) (line other : Line) → line ≡ other → Pays faults old new was now (fuses_of other) → Pays faults old new was now (fuses_of line)
-  pays_line old new was now line other is pays = subst (λ l. Pays faults old new was now (fuses_of l)) (sym is) pays
+  pub pays_line : (old new : List (Store (Fused D))) (was now : List ℕ) (line other : Line) → line ≡ other → Pays faults lasts old new was now (fuses_of other) → Pays faults lasts old new was now (fuses_of line)
+  pays_line old new was now line other is pays = subst (λ l. Pays faults lasts old new was now (fuses_of l)) (sym is) pays

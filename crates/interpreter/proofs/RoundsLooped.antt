@@ -11,7 +11,7 @@ use Rattle.interpreter.specs.declared.interpreter.Halt.{Halt}
 use Rattle.interpreter.specs.declared.interpreter.Halt.TheVariants as halts
 use Rattle.interpreter.specs.Steps.{Goes, GoesBy, HaltsBy}
 use Rattle.interpreter.specs.Story.{grown_by}
-use Rattle.interpreter.proofs.Stepping.{grown_append, grown_length, goes_none, goes_join, by_join, halts_behind, halts_limit}
+use Rattle.interpreter.proofs.EventsText.{grown_append, grown_length, events_first, goes_none, goes_join, by_join, halts_behind, halts_limit}
 
 -- After so many rounds events happened, at least one each; what ends from here on ends the whole, and what begins from
 -- here on begins it.
@@ -67,7 +67,7 @@ module _ {X : Type 0} (seen : X → Contents) (images : X → Image → Type 0) 
   so_far_full sim was now run k Ends Begins Ends' Begins' enough s none next comes =
       so_far_halts sim sim was now now run k Ends Begins Ends' Begins' (halts.Limit limits.Events) s
       (halts_limit seen images sim now now (grown_by run s.events) (Begins' (grown_by run s.events)) limits.Events next s.goes.shows refl none comes
-      (subst (λ n. EVENTS ≤ n) (sym (grown_length run s.events)) (many k (length run.events) (length s.events) enough s.long)))
+      (events_first (grown_by run s.events) next (subst (λ n. EVENTS ≤ n) (sym (grown_length run s.events)) (many k (length run.events) (length s.events) enough s.long))))
 
   crowded : (k a b c : ℕ) → EVENTS < k → k ≤ b → a + b ≡ c → c ≤ EVENTS → ⊥
   crowded k a b c e f g h = omega arith
