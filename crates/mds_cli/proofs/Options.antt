@@ -1,36 +1,18 @@
--- Options in either order are choices, one after another, each of another option.
-use Rattle.std.proofs.Common.{◌≡◌, ◌∙◌, sym, ap, subst, refl, ℕ, ◌≤◌, List, [], ◌∷◌, ◌++◌, length, arith, codes, inl, inr, append-nil, map, true, false, Option, Some, None, lit≤}
-use Rattle.std.specs.Prelude.{decimal, unwrap_or, ◌⊎◌, ◌==◌}
-use Rattle.std.specs.Option.{option_and_then}
-use Rattle.std.proofs.lemmas.Bool.{true≢false, eqb-true}
-use Rattle.std.proofs.lemmas.Option.{same_Some, none-some}
+-- Options are one list of choices, no two of one option.
+use Rattle.std.proofs.Common.{◌≡◌, ◌∙◌, sym, ap, subst, refl, ℕ, ◌<◌, List, [], ◌∷◌, length, arith, codes, map, Bool, true, false, not, nat_eq, Option, Some, None, lit≤}
+use Rattle.std.specs.Prelude.{◌==◌, get_or, set, MatchOption}
+use Rattle.std.specs.Cmp.Lexicographic.{pointwise}
+use Rattle.std.specs.List.{list_any, fold}
+use Rattle.std.proofs.lemmas.Bool.{true≢false, eqb-true, eqb-false, or_parts, or_from}
+use Rattle.std.proofs.lemmas.List.{get_or-set_same, get_or-set_other, length-set}
+use Rattle.std.proofs.lemmas.Slice.Eq.{bytes_eq-Decides}
 use Rattle.mds_base.specs.declared.setup.Setup.{Setup}
-use Rattle.mds_cli.specs.Words.{IsOption, IsGiven, IsChosen, AreOptions, AsksFor, setup_of}
-use Rattle.mds_cli.specs.Choices.{Names, Gives, Chooses, with_choice}
+use Rattle.mds_base.specs.Setups.{IsSetup}
+use Rattle.mds_cli.specs.Choices.{Chooses, AreChoices, AreApart, chosen, option_of}
+use Rattle.mds_cli.specs.Words.{AreOptions, AsksFor, usual}
 use Rattle.mds_cli.specs.declared.words.Choice.{Choice}
 use Rattle.mds_cli.specs.declared.words.Choice.TheVariants.{Servers, Clients}
-use Rattle.mds_cli.specs.declared.words.Numbers.{Numbers}
-use Rattle.mds_base.specs.Setups.{IsSetup}
-use Rattle.mds_cli.proofs.Spellings.{chooses_one, choice_shortens}
-
--- the words are these choices
-abbrev pub AreChoices : List Choice → List (List ℕ) → Type 0
-AreChoices [] words = words ≡ []
-AreChoices (choice ∷ choices) words = (rest : List (List ℕ)) × Chooses choice words rest × AreChoices choices rest
-
--- what options gave so far and these give
-abbrev pub with_choices : Numbers → List Choice → Option Numbers
-with_choices numbers [] = Some numbers
-with_choices numbers (choice ∷ choices) = option_and_then (λ more. with_choices more choices) (with_choice numbers choice)
-
-abbrev pub nothing : Numbers
-nothing = record { servers = None; clients = None }
-
--- the words are choices that, with these numbers, make those
-pub record Adds (numbers : Numbers) (words : List (List ℕ)) (made : Numbers) : Type 0 where
-  pub choices : List Choice
-  pub are : AreChoices choices words
-  pub is : with_choices numbers choices ≡ Some made
+use Rattle.mds_cli.proofs.OptionSpelling.{chooses_one, choice_shortens}
 
 -- ---- words are one list of choices
 
@@ -46,114 +28,39 @@ choices_one (choice ∷ choices) (choice' ∷ choices') words are are' =
     let others = choices_one choices choices' are'.0 (subst (AreChoices choices) one.1 are.2) are'.2 in
     λ i. one.0 i ∷ others i
 
-adds_one : (numbers made made' : Numbers) (words : List (List ℕ)) → Adds numbers words made → Adds numbers words made' → made ≡ made'
-adds_one numbers made made' words adds adds' =
-    same_Some made made' (sym adds.is ∙ ap (with_choices numbers) (choices_one adds.choices adds'.choices words adds.are adds'.are) ∙ adds'.is)
+-- ---- options that were given before
 
--- ---- from options to choices
+-- none of these choices is of an option that was given
+abbrev pub AreNew : List Bool → List Choice → Type 0
+AreNew given [] = Unit {0}
+AreNew given (choice ∷ more) = (get_or given (option_of choice) false ≡ false) × AreNew given more
 
-given_front : (name : List ℕ) (most value : ℕ) (words rest : List (List ℕ)) → IsGiven name most value words → Gives name most value (words ++ rest) rest
-given_front name most value words rest given = record { names = spelled given.option; some = given.some; few = given.few }
-  where
-    spelled : IsOption name value words → Names name (decimal value) (words ++ rest) rest
-    spelled (inl is) = inl (ap (λ l. l ++ rest) is)
-    spelled (inr is) = inr (ap (λ l. l ++ rest) is)
+none_given : (choices : List Choice) → AreNew (false ∷ false ∷ []) choices
+none_given [] = tt
+none_given (Servers value ∷ more) = (refl, none_given more)
+none_given (Clients value ∷ more) = (refl, none_given more)
 
--- the choice of a number that may be left out
-listed : (ℕ → Choice) → Option ℕ → List Choice
-listed make None = []
-listed make (Some value) = make value ∷ []
+-- with one option more
+module _ (given : List Bool) (option : ℕ) (within : option < length given) where
+  still_new : (choices : List Choice) → list_any (λ other. option_of other == option) choices ≡ false → AreNew given choices → AreNew (set given option true) choices
+  still_new [] apart new = tt
+  still_new (choice ∷ more) apart new =
+      let both = or_parts (option_of choice == option) (list_any (λ other. option_of other == option) more) apart in
+      (get_or-set_other given option (option_of choice) true false (eqb-false (option_of choice) option both.0) ∙ new.0, still_new more both.1 new.1)
 
-chosen_front : (make : ℕ → Choice) (name : List ℕ) (most : ℕ) → ((value : ℕ) (words rest : List (List ℕ)) → Gives name most value words rest → Chooses (make value) words rest) → (number : Option ℕ) (words rest : List (List ℕ)) (choices : List Choice) → IsChosen name most number words → AreChoices choices rest → AreChoices (listed make number ++ choices) (words ++ rest)
-unfolding listed
-chosen_front make name most chooses None words rest choices none are = subst (λ l. AreChoices choices (l ++ rest)) (sym none) are
-chosen_front make name most chooses (Some value) words rest choices given are = (rest, chooses value (words ++ rest) rest (given_front name most value words rest given), are)
+  other_option : (choice : Choice) → get_or (set given option true) (option_of choice) false ≡ false → (same : Bool) → (option_of choice == option) ≡ same → same ≡ false
+  other_option choice new true is =
+      absurd (true≢false (sym (ap (λ k. get_or (set given option true) k false) (eqb-true (option_of choice) option is) ∙ get_or-set_same given option true false within) ∙ new))
+  other_option choice new false is = refl
 
-servers_front : (servers : Option ℕ) (words rest : List (List ℕ)) (choices : List Choice) → IsChosen (codes "--servers") 32 servers words → AreChoices choices rest → AreChoices (listed Servers servers ++ choices) (words ++ rest)
-servers_front = chosen_front Servers (codes "--servers") 32 (λ value words rest gives. gives)
-
-clients_front : (clients : Option ℕ) (words rest : List (List ℕ)) (choices : List Choice) → IsChosen (codes "--clients") 64 clients words → AreChoices choices rest → AreChoices (listed Clients clients ++ choices) (words ++ rest)
-clients_front = chosen_front Clients (codes "--clients") 64 (λ value words rest gives. gives)
-
-servers_then : (servers clients : Option ℕ) → with_choices nothing (listed Servers servers ++ (listed Clients clients ++ [])) ≡ Some (record { servers = servers; clients = clients })
-unfolding listed
-servers_then None None = refl
-servers_then None (Some value) = refl
-servers_then (Some value) None = refl
-servers_then (Some value) (Some value') = refl
-
-clients_then : (servers clients : Option ℕ) → with_choices nothing (listed Clients clients ++ (listed Servers servers ++ [])) ≡ Some (record { servers = servers; clients = clients })
-unfolding listed
-clients_then None None = refl
-clients_then None (Some value) = refl
-clients_then (Some value) None = refl
-clients_then (Some value) (Some value') = refl
-
-to_choices : (words : List (List ℕ)) (servers clients : Option ℕ) → AreOptions words servers clients → Adds nothing words (record { servers = servers; clients = clients })
-to_choices words servers clients options = by options.order
-  where
-    end : (front back : List (List ℕ)) → words ≡ front ++ back → words ≡ front ++ (back ++ [])
-    end front back is = is ∙ ap (λ l. front ++ l) (sym (append-nil back))
-
-    by : (words ≡ options.first ++ options.second) ⊎ (words ≡ options.second ++ options.first) → Adds nothing words (record { servers = servers; clients = clients })
-    by (inl is) = record {
-      choices = listed Servers servers ++ (listed Clients clients ++ []);
-      are = subst (AreChoices (listed Servers servers ++ (listed Clients clients ++ []))) (sym (end options.first options.second is))
-          (servers_front servers options.first (options.second ++ []) (listed Clients clients ++ []) options.servers' (clients_front clients options.second [] [] options.clients' refl));
-      is = servers_then servers clients;
-    }
-    by (inr is) = record {
-      choices = listed Clients clients ++ (listed Servers servers ++ []);
-      are = subst (AreChoices (listed Clients clients ++ (listed Servers servers ++ []))) (sym (end options.second options.first is))
-          (clients_front clients options.second (options.first ++ []) (listed Servers servers ++ []) options.clients' (servers_front servers options.first [] [] options.servers' refl));
-      is = clients_then servers clients;
-    }
-
--- ---- and back
-
-record IsFront (name : List ℕ) (most value : ℕ) (words rest : List (List ℕ)) : Type 0 where
-  pub front : List (List ℕ)
-  pub given : IsGiven name most value front
-  pub is : words ≡ front ++ rest
-
-front_given : (name : List ℕ) (most value : ℕ) (words rest : List (List ℕ)) → Gives name most value words rest → IsFront name most value words rest
-front_given name most value words rest gives = by gives.names
-  where
-    by : Names name (decimal value) words rest → IsFront name most value words rest
-    by (inl is) = record { front = name ∷ decimal value ∷ []; given = record { option = inl refl; some = gives.some; few = gives.few }; is = is }
-    by (inr is) = record { front = (name ++ codes "=" ++ decimal value) ∷ []; given = record { option = inr refl; some = gives.some; few = gives.few }; is = is }
-
-one_front : {name : List ℕ} {most value : ℕ} {words rest : List (List ℕ)} (first : IsFront name most value words rest) → rest ≡ [] → words ≡ first.front ++ []
-one_front first none = first.is ∙ ap (λ l. first.front ++ l) none
-
-two_fronts : {name name' : List ℕ} {most most' value value' : ℕ} {words rest rest' : List (List ℕ)} (first : IsFront name most value words rest) (second : IsFront name' most' value' rest rest') → rest' ≡ [] → words ≡ first.front ++ second.front
-two_fronts first second none = first.is ∙ ap (λ l. first.front ++ l) (one_front second none ∙ append-nil second.front)
-
-made_by : (words : List (List ℕ)) (numbers made : Numbers) → Some numbers ≡ Some made → AreOptions words numbers.servers numbers.clients → AreOptions words made.servers made.clients
-made_by words numbers made is options = subst (λ n. AreOptions words n.servers n.clients) (same_Some numbers made is) options
-
-from_choices : (choices : List Choice) (words : List (List ℕ)) (made : Numbers) → AreChoices choices words → with_choices nothing choices ≡ Some made → AreOptions words made.servers made.clients
-from_choices [] words made are is = made_by words nothing made is (record { first = []; second = []; servers' = refl; clients' = refl; order = inl are })
-from_choices (Servers value ∷ []) words made are is =
-    let first = front_given (codes "--servers") 32 value words are.0 are.1 in
-    made_by words _ made is (record { first = first.front; second = []; servers' = first.given; clients' = refl; order = inl (one_front first are.2) })
-from_choices (Clients value ∷ []) words made are is =
-    let first = front_given (codes "--clients") 64 value words are.0 are.1 in
-    made_by words _ made is (record { first = []; second = first.front; servers' = refl; clients' = first.given; order = inr (one_front first are.2) })
-from_choices (Servers value ∷ Clients value' ∷ []) words made are is =
-    let first = front_given (codes "--servers") 32 value words are.0 are.1 in
-    let second = front_given (codes "--clients") 64 value' are.0 are.2.0 are.2.1 in
-    made_by words _ made is (record { first = first.front; second = second.front; servers' = first.given; clients' = second.given; order = inl (two_fronts first second are.2.2) })
-from_choices (Clients value ∷ Servers value' ∷ []) words made are is =
-    let first = front_given (codes "--clients") 64 value words are.0 are.1 in
-    let second = front_given (codes "--servers") 32 value' are.0 are.2.0 are.2.1 in
-    made_by words _ made is (record { first = second.front; second = first.front; servers' = second.given; clients' = first.given; order = inr (two_fronts first second are.2.2) })
-from_choices (Servers value ∷ Servers value' ∷ choices) words made are is = absurd (none-some made is)
-from_choices (Clients value ∷ Clients value' ∷ choices) words made are is = absurd (none-some made is)
-from_choices (Servers value ∷ Clients value' ∷ Servers more ∷ choices) words made are is = absurd (none-some made is)
-from_choices (Servers value ∷ Clients value' ∷ Clients more ∷ choices) words made are is = absurd (none-some made is)
-from_choices (Clients value ∷ Servers value' ∷ Servers more ∷ choices) words made are is = absurd (none-some made is)
-from_choices (Clients value ∷ Servers value' ∷ Clients more ∷ choices) words made are is = absurd (none-some made is)
+  was_new : (choices : List Choice) → AreNew (set given option true) choices → (list_any (λ other. option_of other == option) choices ≡ false) × AreNew given choices
+  was_new [] new = (refl, tt)
+  was_new (choice ∷ more) new =
+      let other : (option_of choice == option) ≡ false = other_option choice new.0 (option_of choice == option) refl in
+      let later = was_new more new.1 in (
+        or_from (option_of choice == option) (list_any (λ other. option_of other == option) more) other later.0,
+        (sym (get_or-set_other given option (option_of choice) true false (eqb-false (option_of choice) option other)) ∙ new.0, later.1),
+      )
 
 -- ---- reading options, one after another
 
@@ -165,103 +72,133 @@ pub not_empty-map : {X Y : Type 0} (f : X → Y) (xs : List X) → false ≡ (le
 not_empty-map f [] some = absurd (true≢false (sym some))
 not_empty-map f (x ∷ xs) some = λ none. cc
 
--- what the options give is what choices from the rest add to the numbers so far
-pub record Remains (options : List (List ℕ)) (numbers : Numbers) (rest : List (List ℕ)) : Type 0 where
-  pub adds : (servers clients : Option ℕ) → AreOptions options servers clients → Adds numbers rest (record { servers = servers; clients = clients })
-  pub are : (made : Numbers) → Adds numbers rest made → AreOptions options made.servers made.clients
-
-pub remains_all : (options : List (List ℕ)) (numbers : Numbers) → numbers.servers ≡ None → numbers.clients ≡ None → Remains options numbers options
-remains_all options numbers none none' =
-    let first : nothing ≡ numbers = λ i. record { servers = sym none i; clients = sym none' i } in
-    subst (λ n. Remains options n options) first (record {
-      adds = λ servers clients are. to_choices options servers clients are;
-      are = λ made adds. from_choices adds.choices options made adds.are adds.is;
-    })
-
-pub remains_none : (options : List (List ℕ)) (numbers : Numbers) (rest : List (List ℕ)) → Remains options numbers rest → rest ≡ [] → AreOptions options numbers.servers numbers.clients
-remains_none options numbers rest remains none = remains.are numbers (record { choices = []; are = none; is = refl })
-
--- the choice that the rest begins with is the first one that it adds
-record AddsAfter (numbers : Numbers) (choice : Choice) (behind : List (List ℕ)) (made : Numbers) : Type 0 where
+-- the rest are choices of other options than those given, and with their numbers this setup is that one
+pub record Adds (given : List Bool) (setup : Setup) (rest : List (List ℕ)) (made : Setup) : Type 0 where
   pub choices : List Choice
-  pub are : AreChoices choices behind
-  pub is : option_and_then (λ more. with_choices more choices) (with_choice numbers choice) ≡ Some made
+  pub are : AreChoices choices rest
+  pub apart : AreApart choices
+  pub new : AreNew given choices
+  pub is : made ≡ fold chosen setup choices
 
-adds_after : (numbers made : Numbers) (choice : Choice) (rest behind : List (List ℕ)) → Chooses choice rest behind → Adds numbers rest made → AddsAfter numbers choice behind made
-adds_after numbers made choice rest behind given adds = by adds.choices adds.are adds.is
-  where
-    by : (choices : List Choice) → AreChoices choices rest → with_choices numbers choices ≡ Some made → AddsAfter numbers choice behind made
-    by [] none is = absurd (some_choice choice rest behind none given)
-    by (choice' ∷ choices) are is =
-        let one = chooses_one choice' choice rest are.0 behind are.1 given in
-        record {
-          choices = choices;
-          are = subst (AreChoices choices) one.1 are.2;
-          is = ap (λ first. option_and_then (λ more. with_choices more choices) (with_choice numbers first)) (sym one.0) ∙ is;
-        }
+-- what the options give is what the rest adds
+pub record Remains (options : List (List ℕ)) (given : List Bool) (setup : Setup) (rest : List (List ℕ)) : Type 0 where
+  pub count : length given ≡ 2
+  pub adds : (made : Setup) → AreOptions options made → Adds given setup rest made
+  pub are : (made : Setup) → Adds given setup rest made → AreOptions options made
 
-pub remains_next : (options : List (List ℕ)) (numbers more : Numbers) (choice : Choice) (rest behind : List (List ℕ)) → Remains options numbers rest → Chooses choice rest behind → with_choice numbers choice ≡ Some more → Remains options more behind
-remains_next options numbers more choice rest behind remains given with = record {
-  adds = λ servers clients are.
-      let after = adds_after numbers _ choice rest behind given (remains.adds servers clients are) in
-      record { choices = after.choices; are = after.are; is = ap (option_and_then (λ n. with_choices n after.choices)) (sym with) ∙ after.is };
-  are = λ made adds. remains.are made (record {
-    choices = choice ∷ adds.choices;
-    are = (behind, given, adds.are);
-    is = ap (option_and_then (λ n. with_choices n adds.choices)) with ∙ adds.is;
-  });
+pub remains_all : (options : List (List ℕ)) → Remains options (false ∷ false ∷ []) usual options
+remains_all options = record {
+  count = refl;
+  adds = λ made are. record { choices = are.choices; are = are.are; apart = are.apart; new = none_given are.choices; is = are.is };
+  are = λ made adds. record { choices = adds.choices; are = adds.are; apart = adds.apart; is = adds.is };
 }
 
--- no numbers are given where the rest begins with no choice, or with one of an option that was given before
-pub no_choice : (options : List (List ℕ)) (numbers : Numbers) (rest : List (List ℕ)) → Remains options numbers rest → (rest ≡ [] → ⊥) → ((choice : Choice) (behind : List (List ℕ)) → Chooses choice rest behind → ⊥) → (servers clients : Option ℕ) → AreOptions options servers clients → ⊥
-no_choice options numbers rest remains some none servers clients are = let adds = remains.adds servers clients are in by adds.choices adds.are
-  where
-    by : (choices : List Choice) → AreChoices choices rest → ⊥
-    by [] empty = some empty
-    by (choice ∷ choices) are = none choice are.0 are.1
+module _ (options : List (List ℕ)) (given : List Bool) (setup : Setup) (rest : List (List ℕ)) (remains : Remains options given setup rest) where
+  pub remains_none : rest ≡ [] → AreOptions options setup
+  remains_none none = remains.are setup (record { choices = []; are = none; apart = tt; new = tt; is = refl })
 
-pub second_choice : (options : List (List ℕ)) (numbers : Numbers) (choice : Choice) (rest behind : List (List ℕ)) → Remains options numbers rest → Chooses choice rest behind → with_choice numbers choice ≡ None → (servers clients : Option ℕ) → AreOptions options servers clients → ⊥
-second_choice options numbers choice rest behind remains given with servers clients are =
-    let after = adds_after numbers _ choice rest behind given (remains.adds servers clients are) in
-    none-some _ (ap (option_and_then (λ n. with_choices n after.choices)) (sym with) ∙ after.is)
+  pub no_choice : (rest ≡ [] → ⊥) → ((choice : Choice) (behind : List (List ℕ)) → Chooses choice rest behind → ⊥) → (made : Setup) → AreOptions options made → ⊥
+  no_choice some none made are = let adds = remains.adds made are in by adds.choices adds.are
+    where
+      by : (choices : List Choice) → AreChoices choices rest → ⊥
+      by [] empty = some empty
+      by (choice ∷ choices) are = none choice are.0 are.1
+
+  -- the choice that the rest begins with is the first one that it adds
+  module _ (choice : Choice) (behind : List (List ℕ)) (given_first : Chooses choice rest behind) where
+    record AddsFirst (made : Setup) : Type 0 where
+      new : get_or given (option_of choice) false ≡ false
+      later : option_of choice < length given → Adds (set given (option_of choice) true) (chosen setup choice) behind made
+
+    adds_first : (made : Setup) → Adds given setup rest made → AddsFirst made
+    adds_first made adds = by adds.choices adds.are adds.apart adds.new adds.is
+      where
+        by : (choices : List Choice) → AreChoices choices rest → AreApart choices → AreNew given choices → made ≡ fold chosen setup choices → AddsFirst made
+        by [] none apart new is = absurd (some_choice choice rest behind none given_first)
+        by (first ∷ choices) are apart new is =
+            let one = chooses_one first choice rest are.0 behind are.1 given_first in
+            record {
+              new = subst (λ c. get_or given (option_of c) false ≡ false) one.0 new.0;
+              later = λ within. record {
+                choices = choices;
+                are = subst (AreChoices choices) one.1 are.2;
+                apart = apart.1;
+                new = still_new given (option_of choice) within choices (subst (λ c. list_any (λ other. option_of other == option_of c) choices ≡ false) one.0 apart.0) new.1;
+                is = subst (λ c. made ≡ fold chosen (chosen setup c) choices) one.0 is;
+              };
+            }
+
+    pub second_choice : get_or given (option_of choice) false ≡ true → (made : Setup) → AreOptions options made → ⊥
+    second_choice second made are = true≢false (sym second ∙ (adds_first made (remains.adds made are)).new)
+
+    pub remains_next : get_or given (option_of choice) false ≡ false → option_of choice < 2 → Remains options (set given (option_of choice) true) (chosen setup choice) behind
+    remains_next first within = record {
+      count = length-set given (option_of choice) true ∙ remains.count;
+      adds = λ made are. (adds_first made (remains.adds made are)).later (omega (arith, within, remains.count));
+      are = λ made adds.
+          let new = was_new given (option_of choice) (omega (arith, within, remains.count)) adds.choices adds.new in
+          remains.are made (record {
+            choices = choice ∷ adds.choices;
+            are = (behind, given_first, adds.are);
+            apart = (new.0, adds.apart);
+            new = (first, new.1);
+            is = adds.is;
+          });
+    }
 
 -- ---- what words ask for
 
--- words whose options give no numbers ask for none
-pub asks_none : (words options : List (List ℕ)) (command : List ℕ) → words ≡ command ∷ options → ((servers clients : Option ℕ) → AreOptions options servers clients → ⊥) → (setup : Setup) → AsksFor words setup → ⊥
+-- words whose options give no setup ask for none
+asks_none : (words options : List (List ℕ)) (command : List ℕ) → words ≡ command ∷ options → ((setup : Setup) → AreOptions options setup → ⊥) → (setup : Setup) → AsksFor words setup → ⊥
 asks_none words options command are none setup asks =
     let both : codes "solo" ∷ asks.options ≡ command ∷ options = sym asks.solo ∙ are in
     let same : asks.options ≡ options = cc in
-    none asks.servers asks.clients (subst (λ l. AreOptions l asks.servers asks.clients) same asks.chosen)
+    none setup (subst (λ l. AreOptions l setup) same asks.given)
+
+-- the word was compared with it
+pub is_solo : (word text : List ℕ) → word ≡ text → false ≡ not (pointwise nat_eq word (codes "solo")) → text ≡ codes "solo"
+is_solo word text is same = sym is ∙ (bytes_eq-Decides word (codes "solo")).0 (by (pointwise nat_eq word (codes "solo")) same)
+  where
+    by : (b : Bool) → false ≡ not b → b ≡ true
+    by true other = refl
+    by false other = absurd (true≢false (sym other))
+
+pub asks_given : (words options : List (List ℕ)) (command : List ℕ) (made : Option Setup) → words ≡ command ∷ options → command ≡ codes "solo" → MatchOption made ((setup : Setup) → AreOptions options setup → ⊥) (λ setup. AreOptions options setup)
+    → MatchOption made ((setup : Setup) → AsksFor words setup → ⊥) (λ setup. AsksFor words setup)
+asks_given words options command None are solo none = asks_none words options command are none
+asks_given words options command (Some setup) are solo given = record { options = options; solo = are ∙ ap (λ word. word ∷ options) solo; given = given }
 
 -- words ask for one setup
 pub asks_one : (words : List (List ℕ)) (a b : Setup) → AsksFor words a → AsksFor words b → a ≡ b
 asks_one words a b asks asks' =
     let both : codes "solo" ∷ asks.options ≡ codes "solo" ∷ asks'.options = sym asks.solo ∙ asks'.solo in
     let options : asks.options ≡ asks'.options = cc in
-    let adds = to_choices asks.options asks.servers asks.clients asks.chosen in
-    let adds' = to_choices asks'.options asks'.servers asks'.clients asks'.chosen in
-    let numbers = adds_one nothing _ _ asks'.options (subst (λ l. Adds nothing l (record { servers = asks.servers; clients = asks.clients })) options adds) adds' in
-    asks.is ∙ ap (λ n. setup_of n.servers n.clients) numbers ∙ sym asks'.is
-
-in_range : (name : List ℕ) (most usual : ℕ) (number : Option ℕ) (words : List (List ℕ)) → 1 ≤ usual → usual ≤ most → IsChosen name most number words → (1 ≤ unwrap_or number usual) × (unwrap_or number usual ≤ most)
-in_range name most usual None words some few chosen = (some, few)
-in_range name most usual (Some value) words some few chosen = (chosen.some, chosen.few)
+    let given = asks.given in
+    let given' = asks'.given in
+    given.is ∙ ap (fold chosen usual) (choices_one given.choices given'.choices asks'.options (subst (AreChoices given.choices) options given.are) given'.are) ∙ sym given'.is
 
 -- the setup's numbers are within their ranges
+choice_setup : (choice : Choice) (words rest : List (List ℕ)) (setup : Setup) → Chooses choice words rest → IsSetup setup → IsSetup (chosen setup choice)
+choice_setup (Servers value) words rest setup given is =
+    record { some_server = given.some; few_servers = given.few; some_client = is.some_client; few_clients = is.few_clients; lease = is.lease; some_row = is.some_row; few_rows = is.few_rows }
+choice_setup (Clients value) words rest setup given is =
+    record { some_server = is.some_server; few_servers = is.few_servers; some_client = given.some; few_clients = given.few; lease = is.lease; some_row = is.some_row; few_rows = is.few_rows }
+
+choices_setup : (choices : List Choice) (words : List (List ℕ)) (setup : Setup) → AreChoices choices words → IsSetup setup → IsSetup (fold chosen setup choices)
+choices_setup [] words setup are is = is
+choices_setup (choice ∷ choices) words setup are is = choices_setup choices are.0 (chosen setup choice) are.2 (choice_setup choice words are.0 setup are.1 is)
+
 pub asks_setup : (words : List (List ℕ)) (setup : Setup) → AsksFor words setup → IsSetup setup
 asks_setup words setup asks =
-    let servers = in_range (codes "--servers") 32 1 asks.servers asks.chosen.first (lit≤ tt) (lit≤ tt) asks.chosen.servers' in
-    let clients = in_range (codes "--clients") 64 8 asks.clients asks.chosen.second (lit≤ tt) (lit≤ tt) asks.chosen.clients' in
-    subst IsSetup (sym asks.is) (record {
-      some_server = servers.0;
-      few_servers = servers.1;
-      some_client = clients.0;
-      few_clients = clients.1;
+    subst IsSetup (sym asks.given.is) (choices_setup asks.given.choices asks.options usual asks.given.are (record {
+      some_server = lit≤ tt;
+      few_servers = lit≤ tt;
+      some_client = lit≤ tt;
+      few_clients = lit≤ tt;
       lease = lit≤ tt;
       some_row = lit≤ tt;
       few_rows = lit≤ tt;
-    })
+    }))
 
 -- as many as the words ask for
 pub asks_count : (words : List (List ℕ)) (count : ℕ) → ((setup : Setup) × AsksFor words setup × (count ≡ setup.servers)) → (n : ℕ) → n ≡ count → (setup : Setup) → AsksFor words setup → n ≡ setup.servers

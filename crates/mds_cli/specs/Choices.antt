@@ -1,8 +1,9 @@
--- Options as the reader takes them: one at the front of the words after another.
-use Rattle.std.specs.Prelude.{◌≡◌, ◌⊎◌, ℕ, ◌≤◌, List, ◌∷◌, ◌++◌, Option, Some, None, codes, decimal}
+-- Options of the command line, each with its number: how words say one, and the setup that they give.
+use Rattle.std.specs.Prelude.{◌≡◌, ◌⊎◌, ℕ, ◌≤◌, ◌==◌, false, List, [], ◌∷◌, ◌++◌, codes, decimal}
+use Rattle.std.specs.List.{list_any}
+use Rattle.mds_base.specs.declared.setup.Setup.{Setup}
 use Rattle.mds_cli.specs.declared.words.Choice.{Choice}
 use Rattle.mds_cli.specs.declared.words.Choice.TheVariants.{Servers, Clients}
-use Rattle.mds_cli.specs.declared.words.Numbers.{Numbers}
 
 -- the text is this number, from 1 to the most that it may be
 pub record IsNumber (most value : ℕ) (text : List ℕ) : Type 0 where
@@ -10,7 +11,7 @@ pub record IsNumber (most value : ℕ) (text : List ℕ) : Type 0 where
   pub some : 1 ≤ value
   pub few : value ≤ most
 
--- the words are an option of this name, whose value has this text, and the rest
+-- the words are an option of this name, whose value has this text, as two words or as one, and the rest
 abbrev pub Names : List ℕ → List ℕ → List (List ℕ) → List (List ℕ) → Type 0
 Names name text words rest = (words ≡ name ∷ text ∷ rest) ⊎ (words ≡ (name ++ codes "=" ++ text) ∷ rest)
 
@@ -20,17 +21,27 @@ pub record Gives (name : List ℕ) (most value : ℕ) (words rest : List (List �
   pub some : 1 ≤ value
   pub few : value ≤ most
 
--- the words are this choice and the rest
+-- the words are this choice, the number of servers, from 1 to 32, or that of clients, from 1 to 64, and the rest
 abbrev pub Chooses : Choice → List (List ℕ) → List (List ℕ) → Type 0
 Chooses (Servers value) words rest = Gives (codes "--servers") 32 value words rest
 Chooses (Clients value) words rest = Gives (codes "--clients") 64 value words rest
 
--- the numbers, unless there was one of the kind before
-abbrev pub once : Option ℕ → Numbers → Option Numbers
-once None numbers = Some numbers
-once (Some value) numbers = None
+-- which option it is
+abbrev pub option_of : Choice → ℕ
+option_of (Servers value) = 0
+option_of (Clients value) = 1
 
--- the numbers that options gave so far, and the one of this choice
-abbrev pub with_choice : Numbers → Choice → Option Numbers
-with_choice numbers (Servers value) = once numbers.servers (record numbers { servers = Some value })
-with_choice numbers (Clients value) = once numbers.clients (record numbers { clients = Some value })
+-- the setup with this number
+abbrev pub chosen : Setup → Choice → Setup
+chosen setup (Servers value) = record setup { servers = value }
+chosen setup (Clients value) = record setup { clients = value }
+
+-- the words are these choices, one after another
+abbrev pub AreChoices : List Choice → List (List ℕ) → Type 0
+AreChoices [] words = words ≡ []
+AreChoices (choice ∷ more) words = (rest : List (List ℕ)) × Chooses choice words rest × AreChoices more rest
+
+-- no two of them are of one option
+abbrev pub AreApart : List Choice → Type 0
+AreApart [] = Unit {0}
+AreApart (choice ∷ more) = (list_any (λ other. option_of other == option_of choice) more ≡ false) × AreApart more

@@ -35,7 +35,8 @@ pub record IsCarriedOut (setup : Setup) (run : RunV) (bytes : List ℕ) (events 
 abbrev pub Follows : Setup → RunV → List (List ℕ) → List Event → Type 0
 Follows setup run [] events = events ≡ []
 Follows setup run (bytes ∷ more) events =
-    (now : List Event) × (later : List Event) × (events ≡ now ++ later) × IsCarriedOut setup run bytes now × Follows setup (grown_by run now) more later
+    (now : List Event) × (later : List Event) × (events ≡ now ++ later) × IsCarriedOut setup run bytes now
+    × Follows setup (grown_by run now) more later
 
 -- ---- a line that is not carried out to its end
 

@@ -4,7 +4,7 @@ use Rattle.mds_base.specs.declared.setup.Setup.{Setup}
 use Rattle.mds_out.specs.Content.{bytes_of}
 use Rattle.mds_out.specs.Disk.{Image, Contents}
 use Rattle.mds_out.specs.Past.{Past, content_of, IsPastImage}
-use Rattle.simulation.specs.Starts.{AreReached}
+use Rattle.pasts.specs.Starts.{AreReached}
 use Rattle.mds_base.specs.Lists.{Each}
 
 -- file 1 of the disk is empty, and a crash leaves it so
@@ -15,7 +15,8 @@ pub record IsNewDisk {D : Type 0} (seen : D → Contents) (images : D → Image 
 -- such disks, one for each server, are those to which the empty past leads
 abbrev pub NewDisksAreReached : {D : Type 0} → (D → Contents) → (D → Image → Type 0) → Type 0
 NewDisksAreReached {D = D} seen images =
-    (setup : Setup) (disks : List D) → length disks ≡ setup.servers → Each disks (λ s disk. IsNewDisk seen images disk) → AreReached seen images setup disks []
+    (setup : Setup) (disks : List D) → length disks ≡ setup.servers → Each disks (λ s disk. IsNewDisk seen images disk)
+    → AreReached seen images setup disks []
 
 -- ---- disks in memory
 
@@ -34,4 +35,5 @@ AreNewMemories (disk ∷ disks) = (disk.acts ≡ []) × AreNewMemories disks
 -- so, one for each server, they are disks to which the empty past leads
 abbrev pub NewMemoriesAreReached : Type 0
 NewMemoriesAreReached =
-    (setup : Setup) (disks : List Past) → length disks ≡ setup.servers → AreNewMemories disks → AreReached memory_seen memory_images setup disks []
+    (setup : Setup) (disks : List Past) → length disks ≡ setup.servers → AreNewMemories disks
+    → AreReached memory_seen memory_images setup disks []

@@ -1,5 +1,6 @@
 -- Both streams of a run at one moment, and what reading a line does to them.
-use Rattle.std.specs.Prelude.{◌≡◌, ℕ, ◌+◌, ◌<◌, ◌≤◌, ◌^◌, List, [], ◌∷◌, ◌++◌, Option, length, take, drop}
+use Rattle.std.specs.Prelude.{◌≡◌, ℕ, ◌+◌, ◌<◌, ◌≤◌, ◌^◌, Bool, true, false, List, [], ◌∷◌, ◌++◌, Option, length, take}
+use Rattle.std.specs.Prelude.{drop}
 use Rattle.std.specs.Io.KnownBytes.{Appends, Consumes, prepend_known}
 use Rattle.mds_out.specs.Fault.{Rose}
 use Rattle.mds_out.specs.Known.{OnTold, OnKnown}
@@ -62,7 +63,20 @@ pub record Streams : Type 0 where
 
 -- the streams where a reader holds these bytes
 abbrev pub streams : List ℕ → Option (List ℕ) → Option (List ℕ) → List ℕ → ℕ → ℕ → Streams
-streams held left taken pending reads writes = record { held = held; unread = prepend_known held left; taken = taken; pending = pending; reads = reads; writes = writes }
+streams held left taken pending reads writes = record {
+  held = held;
+  unread = prepend_known held left;
+  taken = taken;
+  pending = pending;
+  reads = reads;
+  writes = writes;
+}
+
+-- the streams of a moment, by what source and sink tell of themselves
+abbrev pub moment : {S K : Type 0} → (S → Option (List ℕ)) → (S → ℕ) → (K → Option (List ℕ)) → (K → ℕ) → S → K → List ℕ
+    → List ℕ → Streams
+moment left reads taken writes input output held pending =
+    streams held (left input) (taken output) pending (reads input) (writes output)
 
 -- Neither stream failed; what was pending was taken or still waits.
 pub record IsQuiet (before now : Streams) : Type 0 where
@@ -89,6 +103,15 @@ pub record ReadsNone (before now : Streams) : Type 0 where
   pub quiet : IsQuiet before now
   pub consumed : Consumes before.unread now.unread []
   pub ends : Ends before.unread now.unread
+
+-- whether a line was found, and whether it has a line feed
+abbrev pub is_line : Line → Bool
+is_line lines.None = false
+is_line found = true
+
+abbrev pub has_feed : Line → Bool
+has_feed lines.Ended = true
+has_feed found = false
 
 abbrev pub ReadsLine : Line → Streams → Streams → List ℕ → Type 0
 ReadsLine lines.Ended before now line = ReadsEnded before now line

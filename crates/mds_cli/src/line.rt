@@ -4,7 +4,7 @@ ghost use Rattle.std.specs.Io.KnownBytes.{Appends};
 ghost use Rattle.mds_out.specs.Fault.{HasCause};
 ghost use Rattle.mds_out.specs.Stream.{TakesFront};
 ghost use Rattle.mds_cli.specs.Lines.{Lacks, without_return};
-ghost use Rattle.mds_cli.specs.Streams.{streams, ReadsLine, StopsLine};
+ghost use Rattle.mds_cli.specs.Streams.{moment, ReadsLine, StopsLine, has_feed, is_line};
 
 use crate::reader::{Part, Reader};
 use mds_out::{Failed, Sink, Source, write_whole};
@@ -19,6 +19,28 @@ pub(crate) enum Line {
     Last,
     /// There was none left.
     None,
+}
+
+impl Line {
+    /// Whether there was one.
+    pub(crate) fn is_line(self) -> bool
+        ensures { result ≡ is_line self }
+    {
+        match self {
+            Line::Ended | Line::Last => true,
+            Line::None => false,
+        }
+    }
+
+    /// Whether there was one with a line feed, so that more may come.
+    pub(crate) fn has_feed(self) -> bool
+        ensures { result ≡ has_feed self }
+    {
+        match self {
+            Line::Ended => true,
+            Line::Last | Line::None => false,
+        }
+    }
 }
 
 /// Why no line was found.
@@ -54,12 +76,12 @@ pub(crate) fn next_line<S: Source, K: Sink>(
     output: &mut K,
 ) -> Result<Line, Stop>
     ensures ok { IfOk result (λ found. ReadsLine found
-        (streams reader.old (S.left input.old) (K.taken output.old) pending.old.items (S.faults input.old) (K.faults output.old))
-        (streams reader.new (S.left input.new) (K.taken output.new) pending.new.items (S.faults input.new) (K.faults output.new))
+        (moment S.left S.faults K.taken K.faults input.old output.old reader.old pending.old.items)
+        (moment S.left S.faults K.taken K.faults input.new output.new reader.new pending.new.items)
         line.new.items) }
     ensures err { IfErr result (λ stop. StopsLine stop
-        (streams reader.old (S.left input.old) (K.taken output.old) pending.old.items (S.faults input.old) (K.faults output.old))
-        (streams reader.new (S.left input.new) (K.taken output.new) pending.new.items (S.faults input.new) (K.faults output.new))) }
+        (moment S.left S.faults K.taken K.faults input.old output.old reader.old pending.old.items)
+        (moment S.left S.faults K.taken K.faults input.new output.new reader.new pending.new.items)) }
 {
     line.clear();
     'parts: loop {
@@ -95,7 +117,8 @@ pub(crate) fn flush<K: Sink>(pending: &mut Vec<u8>, output: &mut K) -> Result<()
 
 /// The bytes before the first `stop` and those behind it, where there is one.
 pub(crate) fn split_at(bytes: &[u8], stop: u8) -> Option<(&[u8], &[u8])>
-    ensures { MatchOption result (Lacks stop bytes.now) (λ p. Lacks stop p.0.now × (bytes.now ≡ p.0.now ++ stop ∷ p.1.now)) }
+    ensures { MatchOption result (Lacks stop bytes.now)
+        (λ p. Lacks stop p.0.now × (bytes.now ≡ p.0.now ++ stop ∷ p.1.now)) }
 {
     let Some(at) = memchr::memchr(stop, bytes) else {
         return None;
@@ -112,7 +135,8 @@ pub(crate) fn without_return(line: &[u8]) -> &[u8]
 
 /// What stands before the carriage return at a line's end, where there is one.
 fn before_return(line: &[u8]) -> Option<&[u8]>
-    ensures { MatchOption result ((front : List ℕ) → line.now ≡ front ++ 13 ∷ [] → ⊥) (λ front. line.now ≡ front.now ++ 13 ∷ []) }
+    ensures { MatchOption result ((front : List ℕ) → line.now ≡ front ++ 13 ∷ [] → ⊥)
+        (λ front. line.now ≡ front.now ++ 13 ∷ []) }
 {
     line.strip_suffix(b"\r")
 }

@@ -61,7 +61,8 @@ impl Reader {
         requires { self.old ≡ [] }
         ensures read { Consumes (S.left input.old) (S.left input.new) self.new }
         ensures some { IfOk result (λ more. more ≡ true → 1 ≤ length self.new) }
-        ensures end { IfOk result (λ more. more ≡ false → (self.new ≡ []) × Ends (S.left input.old) (S.left input.new)) }
+        ensures end { IfOk result
+            (λ more. more ≡ false → (self.new ≡ []) × Ends (S.left input.old) (S.left input.new)) }
         ensures err { OnErr result (self.new ≡ []) }
         ensures cause { HasCause (S.faults input.old) (S.faults input.new) result }
     {

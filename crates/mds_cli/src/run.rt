@@ -1,16 +1,18 @@
 //! A run of the program, from its disks to its disks.
 ghost use Rattle.std.specs.Prelude.{◌≡◌, [], length};
-ghost use Rattle.simulation.specs.Fuses.{seen_by, images_by};
 ghost use Rattle.mds_base.specs.Setups.{IsSetup};
-ghost use Rattle.mds_cli.specs.Ending.{EndsAs, EndsRunAs, outside};
-ghost use Rattle.mds_cli.specs.Stops.{TextIsPaid, ScriptIsPaid};
+ghost use Rattle.pasts.specs.Openings.{ComeBack};
+ghost use Rattle.mds_cli.specs.Disks.{LeadToDisks};
+ghost use Rattle.mds_cli.specs.Ending.{HasEnded, EndsSo, outside};
+ghost use Rattle.mds_cli.specs.Payments.{TextIsPaid, ScriptIsPaid};
 
 use crate::reader::Reader;
 use crate::session::Session;
 use crate::status::{Status, status_of_fault};
 use mds_base::Setup;
 use mds_out::{Disk, Sink, Source};
-use simulation::{NotOpened, Simulation, laws_of_pasts};
+use pasts::{NotOpened, laws_of_pasts};
+use simulation::Simulation;
 use std::alloc::Global;
 use world::laws_of_runs;
 
@@ -33,11 +35,13 @@ pub(crate) fn run<S: Source, K: Sink, D: Disk + Drop>(
 ) -> Ended<D>
     requires setup { IsSetup setup }
     requires disks { length disks.items ≡ setup.servers }
-    ensures ends { EndsAs D.faults D.seen D.images setup result.status disks.items result.disks.items
+    ensures ends { HasEnded D.faults D.seen D.images setup result.status disks.items result.disks.items
         (outside (S.left input.old) (K.taken output.old) (S.faults input.old) (K.faults output.old))
         (outside (S.left input.new) (K.taken output.new) (S.faults input.new) (K.faults output.new)) }
     ensures passed_on { result.status ≡ Status.Done → K.passed_on output.new }
-    ensures paid { TextIsPaid D.faults disks.items result.disks.items (S.left input.old) (K.taken output.old) (K.taken output.new) }
+    ensures paid { TextIsPaid D.faults disks.items result.disks.items (S.left input.old) (K.taken output.old)
+        (K.taken output.new) }
+    ensures disks { ComeBack D.lasts disks.items result.disks.items }
 {
     laws_of_runs();
     laws_of_pasts::<D>();
@@ -71,12 +75,14 @@ fn carry_script<S: Source, K: Sink, D: Disk + Drop>(
     output: &mut K,
 ) -> Ended<D>
     requires { reader ≡ [] }
-    ensures ends { EndsRunAs (seen_by D.seen) (images_by D.images) D.seen D.images result.status
+    ensures ends { EndsSo D.faults D.seen D.images result.status
         (outside (S.left input.old) (K.taken output.old) (S.faults input.old) (K.faults output.old))
         (outside (S.left input.new) (K.taken output.new) (S.faults input.new) (K.faults output.new))
         simulation result.disks.items }
     ensures passed_on { result.status ≡ Status.Done → K.passed_on output.new }
-    ensures paid { ScriptIsPaid D.faults simulation.stores result.disks.items (S.left input.old) (K.taken output.old) (K.taken output.new) }
+    ensures paid { ScriptIsPaid D.faults simulation.stores result.disks.items (S.left input.old) (K.taken output.old)
+        (K.taken output.new) }
+    ensures disks { LeadToDisks D.lasts simulation.stores result.disks.items }
 {
     let mut session = Session::new(alloc, reader, simulation);
     match session.carry(alloc, input, output) {

@@ -1,17 +1,20 @@
 //! A run line by line: each line is carried out on a simulation, and the text of its events is made.
-ghost use Rattle.std.specs.Prelude.{◌≡◌, [], ◌∷◌, ◌++◌, IfOk, IfErr, OnOk, OnErr, List, map, codes};
+ghost use Rattle.std.specs.Prelude.{◌≡◌, ◌≤◌, ◌^◌, [], ◌∷◌, ◌++◌, IfOk, IfErr, OnOk, List, map, codes};
 ghost use Rattle.std.specs.Io.KnownBytes.{Appends};
 ghost use Rattle.mds_out.specs.Fault.{HasCause};
 ghost use Rattle.mds_out.specs.Stream.{TakesFront};
-ghost use Rattle.simulation.specs.Fuses.{seen_by, images_by};
-ghost use Rattle.simulation.specs.Shows.{AreServers};
-ghost use Rattle.simulation.specs.Starts.{AreDisks};
+ghost use Rattle.pasts.specs.Fuses.{seen_by, images_by};
+ghost use Rattle.pasts.specs.Servers.{AreServers};
+ghost use Rattle.pasts.specs.Starts.{AreDisks};
 ghost use Rattle.world.specs.declared.state.ServerState.{ServerState};
 ghost use Rattle.interpreter.specs.Payments.{Pays};
-ghost use Rattle.mds_cli.specs.Ending.{CarriesAll, StopsCarryingAs};
-ghost use Rattle.mds_cli.specs.Stops.{fuses_armed, PaysLines, PaysStop};
-ghost use Rattle.mds_cli.specs.Streams.{streams};
-ghost use Rattle.mds_cli.specs.Turn.{CarriesOut, StopsCall, TakesTurn, StopsTurn, StopsWith, FinishesWith, status_of};
+ghost use Rattle.interpreter.specs.Steps.{Carries};
+ghost use Rattle.mds_cli.specs.Arming.{ArmsLine};
+ghost use Rattle.mds_cli.specs.Follows.{IsCarriedOut};
+ghost use Rattle.mds_cli.specs.SoFar.{HasStopped};
+ghost use Rattle.mds_cli.specs.Payments.{fuses_armed};
+ghost use Rattle.mds_cli.specs.Streams.{moment};
+ghost use Rattle.mds_cli.specs.Turn.{CarriesAll, StopsCall, TakesTurn, StopsWith, FinishesWith, status_of};
 
 use crate::line::{Line, Stop, flush, next_line, without_return};
 use crate::reader::{LINE_LIMIT, Reader};
@@ -58,32 +61,25 @@ impl<D: Disk> Session<D> {
         input: &mut S,
         output: &mut K,
     ) -> Result<(), Status>
-        requires { self.old.interpreter.pending.items ≡ [] }
-        ensures ok { OnOk result (CarriesAll (seen_by D.seen) (images_by D.images)
-            (streams self.old.reader (S.left input.old) (K.taken output.old) self.old.interpreter.pending.items (S.faults input.old) (K.faults output.old))
-            (streams self.new.reader (S.left input.new) (K.taken output.new) self.new.interpreter.pending.items (S.faults input.new) (K.faults output.new))
+        ensures ok { OnOk result (CarriesAll D.faults D.lasts D.seen D.images
+            (moment S.left S.faults K.taken K.faults input.old output.old self.old.reader
+            self.old.interpreter.pending.items)
+            (moment S.left S.faults K.taken K.faults input.new output.new self.new.reader
+            self.new.interpreter.pending.items)
             self.old.interpreter.simulation self.new.interpreter.simulation) }
-        ensures err { IfErr result (λ status. StopsCarryingAs (seen_by D.seen) (images_by D.images) status
-            (streams self.old.reader (S.left input.old) (K.taken output.old) self.old.interpreter.pending.items (S.faults input.old) (K.faults output.old))
-            (streams self.new.reader (S.left input.new) (K.taken output.new) self.new.interpreter.pending.items (S.faults input.new) (K.faults output.new))
+        ensures err { IfErr result (λ status. HasStopped D.faults D.lasts D.seen D.images status 1
+            (moment S.left S.faults K.taken K.faults input.old output.old self.old.reader
+            self.old.interpreter.pending.items)
+            (moment S.left S.faults K.taken K.faults input.new output.new self.new.reader
+            self.new.interpreter.pending.items)
             self.old.interpreter.simulation self.new.interpreter.simulation) }
-        ensures paid { OnOk result (PaysLines D.faults
-            (streams self.old.reader (S.left input.old) (K.taken output.old) self.old.interpreter.pending.items (S.faults input.old) (K.faults output.old))
-            (streams self.new.reader (S.left input.new) (K.taken output.new) self.new.interpreter.pending.items (S.faults input.new) (K.faults output.new))
-            self.old.interpreter.simulation.stores self.new.interpreter.simulation.stores) }
-        ensures paid_so_far { IfErr result (λ status. PaysStop D.faults status
-            (streams self.old.reader (S.left input.old) (K.taken output.old) self.old.interpreter.pending.items (S.faults input.old) (K.faults output.old))
-            (streams self.new.reader (S.left input.new) (K.taken output.new) self.new.interpreter.pending.items (S.faults input.new) (K.faults output.new))
-            self.old.interpreter.simulation.stores self.new.interpreter.simulation.stores) }
-        ensures setup { self.new.interpreter.simulation.setup ≡ self.old.interpreter.simulation.setup }
     {
         let mut number = 0;
         'lines: loop {
             number += 1;
-            match self.turn(alloc, number, input, output)? {
-                Line::Ended => {}
-                Line::Last => return Ok(()),
-                Line::None => return Ok(()),
+            let found = self.turn(alloc, number, input, output)?;
+            if !found.has_feed() {
+                return Ok(());
             }
         }
     }
@@ -97,23 +93,18 @@ impl<D: Disk> Session<D> {
         input: &mut S,
         output: &mut K,
     ) -> Result<Line, Status>
-        ensures ok { IfOk result (λ found. TakesTurn (seen_by D.seen) (images_by D.images) found
-            (streams self.old.reader (S.left input.old) (K.taken output.old) self.old.interpreter.pending.items (S.faults input.old) (K.faults output.old))
-            (streams self.new.reader (S.left input.new) (K.taken output.new) self.new.interpreter.pending.items (S.faults input.new) (K.faults output.new))
-            number self.old.interpreter.simulation self.new.interpreter.simulation) }
-        ensures err { IfErr result (λ status. StopsTurn (seen_by D.seen) (images_by D.images) status
-            (streams self.old.reader (S.left input.old) (K.taken output.old) self.old.interpreter.pending.items (S.faults input.old) (K.faults output.old))
-            (streams self.new.reader (S.left input.new) (K.taken output.new) self.new.interpreter.pending.items (S.faults input.new) (K.faults output.new))
-            number self.old.interpreter.simulation self.new.interpreter.simulation) }
-        ensures paid { OnOk result (PaysLines D.faults
-            (streams self.old.reader (S.left input.old) (K.taken output.old) self.old.interpreter.pending.items (S.faults input.old) (K.faults output.old))
-            (streams self.new.reader (S.left input.new) (K.taken output.new) self.new.interpreter.pending.items (S.faults input.new) (K.faults output.new))
-            self.old.interpreter.simulation.stores self.new.interpreter.simulation.stores) }
-        ensures paid_so_far { IfErr result (λ status. PaysStop D.faults status
-            (streams self.old.reader (S.left input.old) (K.taken output.old) self.old.interpreter.pending.items (S.faults input.old) (K.faults output.old))
-            (streams self.new.reader (S.left input.new) (K.taken output.new) self.new.interpreter.pending.items (S.faults input.new) (K.faults output.new))
-            self.old.interpreter.simulation.stores self.new.interpreter.simulation.stores) }
-        ensures setup { self.new.interpreter.simulation.setup ≡ self.old.interpreter.simulation.setup }
+        ensures ok { IfOk result (λ found. TakesTurn D.faults D.lasts D.seen D.images found number
+            (moment S.left S.faults K.taken K.faults input.old output.old self.old.reader
+            self.old.interpreter.pending.items)
+            (moment S.left S.faults K.taken K.faults input.new output.new self.new.reader
+            self.new.interpreter.pending.items)
+            self.old.interpreter.simulation self.new.interpreter.simulation) }
+        ensures err { IfErr result (λ status. HasStopped D.faults D.lasts D.seen D.images status number
+            (moment S.left S.faults K.taken K.faults input.old output.old self.old.reader
+            self.old.interpreter.pending.items)
+            (moment S.left S.faults K.taken K.faults input.new output.new self.new.reader
+            self.new.interpreter.pending.items)
+            self.old.interpreter.simulation self.new.interpreter.simulation) }
     {
         let found = match next_line(
             &mut self.reader,
@@ -125,25 +116,30 @@ impl<D: Disk> Session<D> {
             Ok(found) => found,
             Err(stop) => return Err(status_of(stop, number)),
         };
-        match found {
-            Line::None => Ok(Line::None),
-            Line::Ended => {
-                self.carry_out(alloc, number)?;
-                Ok(Line::Ended)
-            }
-            Line::Last => {
-                self.carry_out(alloc, number)?;
-                Ok(Line::Last)
-            }
+        if !found.is_line() {
+            return Ok(found);
         }
+        self.carry_out(alloc, number)?;
+        Ok(found)
     }
 
     /// Carries out the present line, as the one of this number.
     fn carry_out(&mut self, alloc: Global, number: u64) -> Result<(), Status>
-        ensures ok { OnOk result (CarriesOut (seen_by D.seen) (images_by D.images) self.old.interpreter.simulation self.new.interpreter.simulation self.old.interpreter.pending.items self.new.interpreter.pending.items self.old.line.items number) }
-        ensures err { IfErr result (λ status. StopsCall (seen_by D.seen) (images_by D.images) status self.old.interpreter.simulation self.new.interpreter.simulation self.old.interpreter.pending.items self.new.interpreter.pending.items self.old.line.items number) }
+        ensures ok { OnOk result (Carries (seen_by D.seen) (images_by D.images)
+            self.old.interpreter.simulation self.new.interpreter.simulation
+            self.old.interpreter.pending.items self.new.interpreter.pending.items
+            (λ run. IsCarriedOut self.old.interpreter.simulation.setup run self.old.line.items)) }
+        ensures within { OnOk result (number ≤ 2 ^ 22) }
+        ensures paid { OnOk result
+            (Pays D.faults D.lasts self.old.interpreter.simulation.stores self.new.interpreter.simulation.stores
+            self.old.interpreter.pending.items self.new.interpreter.pending.items
+            (fuses_armed (self.old.line.items ∷ []))) }
+        ensures arms { OnOk result
+            (ArmsLine self.old.line.items self.old.interpreter.simulation self.new.interpreter.simulation) }
+        ensures err { IfErr result (λ status. StopsCall D.faults D.lasts D.seen D.images status
+            self.old.interpreter.simulation self.new.interpreter.simulation
+            self.old.interpreter.pending.items self.new.interpreter.pending.items self.old.line.items number) }
         ensures reader { self.new.reader ≡ self.old.reader }
-        ensures paid { Pays D.faults self.old.interpreter.simulation.stores self.new.interpreter.simulation.stores self.old.interpreter.pending.items self.new.interpreter.pending.items (fuses_armed (self.old.line.items ∷ [])) }
         ensures setup { self.new.interpreter.simulation.setup ≡ self.old.interpreter.simulation.setup }
     {
         let bytes = without_return(&self.line);
@@ -169,17 +165,19 @@ impl<D: Disk> Session<D> {
         }
     }
 
-    /// Writes what is left of the text of a run whose lines were all carried out, and says how the run ended. Where there
-    /// is no memory for the effects, only what was pending is written.
+    /// Writes what is left of the text of a run whose lines were all carried out, and says how the run ended. Where
+    /// there is no memory for the effects, only what was pending is written.
     pub(crate) fn finish<K: Sink>(&mut self, alloc: Global, output: &mut K) -> Status
-        ensures cases { FinishesWith (seen_by D.seen) (images_by D.images) self.old.interpreter.simulation result (K.taken output.old) (K.taken output.new) (K.faults output.old) (K.faults output.new) self.old.interpreter.pending.items }
+        ensures cases { FinishesWith (seen_by D.seen) (images_by D.images) self.old.interpreter.simulation result
+            (K.taken output.old) (K.taken output.new) (K.faults output.old) (K.faults output.new)
+            self.old.interpreter.pending.items }
         ensures passed_on { result ≡ Status.Done → K.passed_on output.new }
         ensures simulation { self.new.interpreter.simulation ≡ self.old.interpreter.simulation }
     {
         let Ok(effects) = self.interpreter.effects(alloc) else {
             return self.stop(Status::OutOfMemory, output);
         };
-        match self.write_rest(effects.as_bytes(), output) {
+        match self.write_rest(&effects, output) {
             Ok(()) => Status::Done,
             Err(Failed) => Status::WriteFault,
         }
@@ -187,9 +185,11 @@ impl<D: Disk> Session<D> {
 
     /// Writes the text that is still pending, the effects and `end`, and passes all on.
     fn write_rest<K: Sink>(&self, effects: &[u8], output: &mut K) -> Result<(), Failed>
-        ensures whole { OnOk result (Appends (K.taken output.old) (K.taken output.new) (self.now.interpreter.pending.items ++ effects.now ++ codes "end\n")) }
+        ensures whole { OnOk result (Appends (K.taken output.old) (K.taken output.new)
+            (self.now.interpreter.pending.items ++ effects.now ++ codes "end\n")) }
         ensures passed_on { OnOk result (K.passed_on output.new) }
-        ensures front { TakesFront (K.taken output.old) (K.taken output.new) (self.now.interpreter.pending.items ++ effects.now ++ codes "end\n") }
+        ensures front { TakesFront (K.taken output.old) (K.taken output.new)
+            (self.now.interpreter.pending.items ++ effects.now ++ codes "end\n") }
         ensures cause { HasCause (K.faults output.old) (K.faults output.new) result }
     {
         write_both(output, &self.interpreter.pending, effects)?;
@@ -200,7 +200,8 @@ impl<D: Disk> Session<D> {
     /// Writes the text that is still pending before the run stops with this status. Where the sink fails, or failed
     /// before, the status is `WriteFault`; but want of memory stays.
     pub(crate) fn stop<K: Sink>(&mut self, status: Status, output: &mut K) -> Status
-        ensures cases { StopsWith status result (K.taken output.old) (K.taken output.new) (K.faults output.old) (K.faults output.new) self.old.interpreter.pending.items }
+        ensures cases { StopsWith status result (K.taken output.old) (K.taken output.new) (K.faults output.old)
+            (K.faults output.new) self.old.interpreter.pending.items }
         ensures simulation { self.new.interpreter.simulation ≡ self.old.interpreter.simulation }
     {
         match status {
@@ -220,7 +221,10 @@ impl<D: Disk> Session<D> {
 impl<D: Disk + Drop> Session<D> {
     /// The disks, each at its place.
     pub(crate) fn into_disks(self) -> Vec<D>
-        ensures left { (servers : List ServerState) → AreServers (seen_by D.seen) (images_by D.images) self.interpreter.simulation.setup self.interpreter.simulation.stores servers → AreDisks D.seen D.images self.interpreter.simulation.setup result.items servers }
+        ensures left { (servers : List ServerState)
+            → AreServers (seen_by D.seen) (images_by D.images) self.interpreter.simulation.setup
+            self.interpreter.simulation.stores servers
+            → AreDisks D.seen D.images self.interpreter.simulation.setup result.items servers }
         ensures same { result.items ≡ map (λ store. store.disk.inner) self.interpreter.simulation.stores }
     {
         let Session { interpreter, .. } = self;

@@ -37,8 +37,8 @@ pub enum Status {
         server: u32,
         /// The file.
         file: u32,
-        /// The place in the file.
-        place: u64,
+        /// The offset in the file.
+        offset: u64,
         /// What is wrong there.
         damage: Damage,
     },
@@ -79,11 +79,11 @@ impl fmt::Display for Status {
             Status::BadDisk {
                 server,
                 file,
-                place,
+                offset,
                 ..
             } => write!(
                 f,
-                "damaged disk of server {server}, file {file}, place {place}"
+                "damaged disk of server {server}, file {file}, place {offset}"
             ),
             Status::Limit { which } => write!(f, "limit {}", LimitText(*which)),
             Status::OutOfMemory => write!(f, "out of memory"),
@@ -138,12 +138,12 @@ pub(crate) fn status_of_halt(halt: Halt) -> Status
         Halt::Damaged {
             server,
             file,
-            place,
+            offset,
             damage,
         } => Status::BadDisk {
             server,
             file,
-            place,
+            offset,
             damage,
         },
         Halt::OutOfMemory => Status::OutOfMemory,
@@ -158,12 +158,12 @@ pub(crate) fn status_of_fault(server: u32, fault: StoreFault) -> Status
         StoreFault::Device => Status::OpenFault { server },
         StoreFault::Damaged {
             file,
-            place,
+            offset,
             damage,
         } => Status::BadDisk {
             server,
             file,
-            place,
+            offset,
             damage,
         },
         _ => Status::OutOfMemory,

@@ -1,8 +1,8 @@
 //! Reads the words of the command line (`docs/FORMATS.md`, "Words, script and text").
-ghost use Rattle.std.specs.Prelude.{◌≡◌, ℕ, List, Option, map, string_bytes, MatchOption};
+ghost use Rattle.std.specs.Prelude.{◌≡◌, ℕ, ◌<◌, List, map, string_bytes, MatchOption};
 ghost use Rattle.mds_base.specs.declared.setup.Setup.{Setup};
 ghost use Rattle.mds_cli.specs.Words.{AreOptions, AsksFor};
-ghost use Rattle.mds_cli.specs.Choices.{IsNumber, Names, Gives, Chooses, with_choice};
+ghost use Rattle.mds_cli.specs.Choices.{IsNumber, Names, Gives, Chooses, chosen, option_of};
 ghost use Rattle.mds_cli.specs.declared.words.Choice.{Choice};
 
 use mds_base::Setup;
@@ -12,6 +12,9 @@ const MOST_SERVERS: u32 = 32;
 
 /// The most clients that a run may have.
 const MOST_CLIENTS: u32 = 64;
+
+/// How many options there are.
+const OPTIONS: usize = 2;
 
 /// What a run without options has. Nothing splits yet, and nothing is leased.
 const DEFAULT: Setup = Setup {
@@ -31,19 +34,15 @@ pub fn setup_of(words: &[String]) -> Option<Setup>
     if command.as_str() != "solo" {
         return None;
     }
-    let numbers = numbers_of(options)?;
-    Some(Setup {
-        servers: numbers.servers.unwrap_or(DEFAULT.servers),
-        clients: numbers.clients.unwrap_or(DEFAULT.clients),
-        ..DEFAULT
-    })
+    setup_with(options)
 }
 
 /// How many disks a run by these words takes, one for each server, or `None` exactly where they ask for no setup.
 pub fn disks_of(words: &[String]) -> Option<u32>
     ensures { MatchOption result
         ((setup : Setup) → AsksFor (map (λ word. string_bytes word) words.now) setup → ⊥)
-        (λ count. (setup : Setup) × AsksFor (map (λ word. string_bytes word) words.now) setup × (count ≡ setup.servers)) }
+        (λ count. (setup : Setup) × AsksFor (map (λ word. string_bytes word) words.now) setup
+        × (count ≡ setup.servers)) }
 {
     setup_of(words).map(|setup| setup.servers)
 }
@@ -53,51 +52,56 @@ pub fn laws_of_words()
     ensures one { (words : List (List ℕ)) → (a b : Setup) → AsksFor words a → AsksFor words b → a ≡ b }
 {}
 
-/// The numbers that the options give.
-fn numbers_of(options: &[String]) -> Option<Numbers>
+/// The setup that options give, each at most once.
+fn setup_with(options: &[String]) -> Option<Setup>
     ensures { let texts = map (λ word. string_bytes word) options.now in MatchOption result
-        ((servers clients : Option ℕ) → AreOptions texts servers clients → ⊥)
-        (λ numbers. AreOptions texts numbers.servers numbers.clients) }
+        ((setup : Setup) → AreOptions texts setup → ⊥)
+        (λ setup. AreOptions texts setup) }
 {
-    let mut numbers = Numbers::default();
+    let mut setup = DEFAULT;
+    let mut given = [false; OPTIONS];
     let mut rest = options;
     while !rest.is_empty() {
         let (choice, behind) = choice_of(rest)?;
-        numbers = numbers.with(choice)?;
+        let option = choice.option();
+        if given[option] {
+            return None;
+        }
+        given[option] = true;
+        setup = choice.choose(setup);
         rest = behind;
     }
-    Some(numbers)
+    Some(setup)
 }
 
-/// The numbers that options gave so far.
-#[derive(Clone, Copy, Default)]
-struct Numbers {
-    servers: Option<u32>,
-    clients: Option<u32>,
-}
-
-/// An option with its number.
+/// An option with its number. One more costs a variant here, and a row of each function and definition on `Choice`.
 #[derive(Clone, Copy)]
 enum Choice {
+    /// How many servers there are.
     Servers(u32),
+    /// How many clients there are.
     Clients(u32),
 }
 
-impl Numbers {
-    /// These numbers and one more, or `None` where its option gave one before.
-    fn with(self, choice: Choice) -> Option<Numbers>
-        ensures { result ≡ with_choice self choice }
+impl Choice {
+    /// Which option it is.
+    fn option(self) -> usize
+        ensures is { result ≡ option_of self }
+        ensures within { result < 2 }
     {
-        match choice {
-            Choice::Servers(servers) if self.servers.is_none() => Some(Numbers {
-                servers: Some(servers),
-                ..self
-            }),
-            Choice::Clients(clients) if self.clients.is_none() => Some(Numbers {
-                clients: Some(clients),
-                ..self
-            }),
-            _ => None,
+        match self {
+            Choice::Servers(_) => 0,
+            Choice::Clients(_) => 1,
+        }
+    }
+
+    /// The setup with this number.
+    fn choose(self, setup: Setup) -> Setup
+        ensures { result ≡ chosen setup self }
+    {
+        match self {
+            Choice::Servers(servers) => Setup { servers, ..setup },
+            Choice::Clients(clients) => Setup { clients, ..setup },
         }
     }
 }

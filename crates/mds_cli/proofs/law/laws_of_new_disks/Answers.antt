@@ -1,4 +1,4 @@
-use Rattle.mds_cli.proofs.Newly.{new_disks, new_memories}
+use Rattle.mds_cli.proofs.DisksNew.{new_disks, new_memories}
 use Rattle.mds_cli.proofs.law.laws_of_new_disks.Goals as goal
 
 pub returns-clause-any : goal.returns-clause-any

@@ -1,6 +1,6 @@
 use Rattle.std.proofs.Common.{◌∙◌, sym, refl, length, ◌≡◌, arith}
 use Rattle.std.proofs.lemmas.Bool.{eqb-true, eqb-false}
-use Rattle.mds_cli.proofs.Reading.{is_nil, too_long, stops_writing, reads_on, reads_last, reads_none, stops_reading}
+use Rattle.mds_cli.proofs.LineRead.{is_nil, too_long, stops_writing, reads_on, reads_last, reads_none, stops_reading}
 use Rattle.mds_cli.proofs.line.next_line.Goals as goal
 
 pub returns-in-TooLong-clause-err : goal.returns-in-TooLong-clause-err

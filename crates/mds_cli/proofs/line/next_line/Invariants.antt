@@ -1,6 +1,6 @@
 use Rattle.std.proofs.Common.{◌-◌, ◌*◌, ◌+◌, ◌^◌, length}
 use Rattle.mds_cli.specs.Streams.{streams}
-use Rattle.mds_cli.proofs.Reading.{IsReading}
+use Rattle.mds_cli.proofs.LineRead.{IsReading}
 use Rattle.mds_cli.proofs.line.next_line.Given as goal
 
 -- the line so far was read

@@ -1,5 +1,5 @@
 use Rattle.std.proofs.Common.{◌∙◌, ap, sym, ◌∷◌, ◌++◌, arith, take, ◌+◌, eqb-true}
-use Rattle.mds_cli.proofs.Parts.{none_found, split_found, lacks_before}
+use Rattle.mds_cli.proofs.ByteParts.{none_found, split_found, lacks_before}
 use Rattle.std.proofs.lemmas.List.{take_rest}
 use Rattle.mds_cli.proofs.line.split_at.Goals as goal
 

@@ -1,5 +1,5 @@
 use Rattle.std.proofs.Common.{refl}
-use Rattle.mds_cli.proofs.Following.{return_of}
+use Rattle.mds_cli.proofs.RunFollows.{return_of}
 use Rattle.mds_cli.proofs.line.without_return.Goals as goal
 
 pub returns : goal.returns

@@ -1,4 +1,4 @@
-use Rattle.mds_cli.proofs.Turning.{front_then}
+use Rattle.mds_cli.proofs.Known.{front_then}
 use Rattle.mds_cli.proofs.session.write_both.Goals as goal
 
 pub returns-clause-front : goal.returns-clause-front

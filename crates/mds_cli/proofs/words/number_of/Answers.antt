@@ -1,6 +1,6 @@
 use Rattle.std.proofs.Common.{map}
 use Rattle.std.specs.Prelude.{string_bytes, decimal}
-use Rattle.mds_cli.proofs.Spellings.{no_number}
+use Rattle.mds_cli.proofs.OptionSpelling.{no_number}
 use Rattle.mds_cli.proofs.words.number_of.Goals as goal
 
 pub returns-in_err-text : goal.returns-in_err-text

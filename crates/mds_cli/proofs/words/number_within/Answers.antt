@@ -4,7 +4,7 @@ use Rattle.std.specs.Result.{result_ok}
 use Rattle.std.proofs.lemmas.Bool.{true≢false}
 use Rattle.std.proofs.lemmas.Option.{none-some, same_Some}
 use Rattle.std.proofs.lemmas.Slice.Eq.{bytes_eq-Decides}
-use Rattle.mds_cli.proofs.Spellings.{number_parsed}
+use Rattle.mds_cli.proofs.OptionSpelling.{number_parsed}
 use Rattle.mds_cli.proofs.words.number_within.Goals as goal
 use Rattle.mds_cli.proofs.words.number_within.Goals.{then-ne-via-then-ne, then-ne-via-else-ne+then-number-eq0, then-ne-via-else-ne+else-number-eq0+then-number-most}
 

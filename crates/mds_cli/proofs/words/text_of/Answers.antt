@@ -2,7 +2,7 @@ use Rattle.std.proofs.Common.{◌∙◌, sym, ap, map, ◌∷◌, ◌++◌, leng
 use Rattle.std.proofs.lemmas.Str.Pattern.{strip_prefix_char}
 use Rattle.std.specs.Prelude.{string_bytes, ◌==◌}
 use Rattle.std.proofs.lemmas.Bool.{true≢false}
-use Rattle.mds_cli.proofs.Spellings.{another_name, another_end}
+use Rattle.mds_cli.proofs.OptionSpelling.{another_name, another_end}
 use Rattle.mds_cli.proofs.words.text_of.Goals as goal
 
 pub returns-in_err-behind : goal.returns-in_err-behind

@@ -1,5 +1,5 @@
 use Rattle.std.proofs.Common.{ap, take, ◌++◌, drop, length}
-use Rattle.mds_cli.proofs.Taking.{at_end}
+use Rattle.mds_cli.proofs.LineTaken.{at_end}
 use Rattle.mds_cli.proofs.reader.Reader.fill.Goals as goal
 
 pub returns-then-self-eq0-clause-end : goal.returns-then-self-eq0-clause-end

@@ -1,7 +1,7 @@
 use Rattle.std.proofs.Common.{◌∙◌, sym, ap, subst, take, ◌-◌, ◌++◌, drop, length, length-drop, arith}
 use Rattle.std.proofs.lemmas.List.{length-take}
 use Rattle.mds_cli.specs.Lines.{IsPart}
-use Rattle.mds_cli.proofs.Taking.{part_within, ends_line, passes_limit, goes_on}
+use Rattle.mds_cli.proofs.LineTaken.{part_within, ends_line, passes_limit, goes_on}
 use Rattle.mds_cli.proofs.reader.Reader.take_part.Goals as goal
 
 pub invariant_of-self : goal.invariant_of-self

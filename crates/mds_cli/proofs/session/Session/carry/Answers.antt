@@ -1,39 +1,32 @@
-use Rattle.std.proofs.Common.{◌∙◌, refl, ◌+◌, ◌∷◌, []}
-use Rattle.simulation.specs.Fuses.{seen_by, images_by}
-use Rattle.mds_cli.specs.Streams.{streams}
+use Rattle.std.proofs.Common.{◌∙◌, sym, refl, ◌+◌, arith}
+use Rattle.mds_cli.specs.Streams.{moment}
 use Rattle.node_store.proofs.Restarting.{err_at}
-use Rattle.mds_cli.proofs.Carrying.{carrying_none, carrying_more}
-use Rattle.mds_cli.proofs.Ending.{all_none, all_last, stops}
-use Rattle.mds_cli.proofs.Paying.{pays_start, lines_next, stop_next}
+use Rattle.mds_cli.proofs.LinesCarried.{carrying_none, carrying_more, carrying_stops, carries_all, within_feed}
 use Rattle.mds_cli.proofs.session.Session.carry.Goals as goal
 
 pub lines-init : goal.lines-init
-lines-init g c = (carrying_none (seen_by g.D.Disk.seen) (images_by g.D.Disk.images) (streams c.args.self.now.reader (g.S.Source.left c.args.input.now) (g.K.Sink.taken c.args.output.now) c.args.self.now.interpreter.pending.items (g.S.Source.faults c.args.input.now) (g.K.Sink.faults c.args.output.now)) c.args.self.now.interpreter.simulation c.requires, pays_start g.D.Disk.faults (streams c.args.self.now.reader (g.S.Source.left c.args.input.now) (g.K.Sink.taken c.args.output.now) c.args.self.now.interpreter.pending.items (g.S.Source.faults c.args.input.now) (g.K.Sink.faults c.args.output.now)) c.args.self.now.interpreter.simulation.stores)
+lines-init g c =
+    let at = moment g.S.Source.left g.S.Source.faults g.K.Sink.taken g.K.Sink.faults in
+    carrying_none g.D.Disk.faults g.D.Disk.lasts g.D.Disk.seen g.D.Disk.images (at c.args.input.now c.args.output.now c.args.self.now.reader c.args.self.now.interpreter.pending.items) c.args.self.now.interpreter.simulation
 
-pub returns-in_err-turn-clause-err : goal.returns-in_err-turn-clause-err
-returns-in_err-turn-clause-err g c =
-    err_at _ c.in_err-turn.field-0.0 _ c.from_residual.ensures.1
-    (stops (seen_by g.D.Disk.seen) (images_by g.D.Disk.images) (streams c.args.self.now.reader (g.S.Source.left c.args.input.now) (g.K.Sink.taken c.args.output.now) c.args.self.now.interpreter.pending.items (g.S.Source.faults c.args.input.now) (g.K.Sink.faults c.args.output.now)) (streams c.lines.self.reader (g.S.Source.left c.lines.input) (g.K.Sink.taken c.lines.output) c.lines.self.interpreter.pending.items (g.S.Source.faults c.lines.input) (g.K.Sink.faults c.lines.output)) (streams c.turn.new.self.reader (g.S.Source.left c.turn.new.input) (g.K.Sink.taken c.turn.new.output) c.turn.new.self.interpreter.pending.items (g.S.Source.faults c.turn.new.input) (g.K.Sink.faults c.turn.new.output)) c.args.self.now.interpreter.simulation c.lines.self.interpreter.simulation c.turn.new.self.interpreter.simulation c.lines.number c.lines.invariant.0.carried (c.lines.number + 1) refl c.lines.invariant.0.bound (c.in_err-turn.ensures.setup ∙ c.lines.invariant.0.carried.setup) c.in_err-turn.field-0.0 c.in_err-turn.ensures.err)
+pub returns-in_err-found-clause-err : goal.returns-in_err-found-clause-err
+returns-in_err-found-clause-err g c =
+    let at = moment g.S.Source.left g.S.Source.faults g.K.Sink.taken g.K.Sink.faults in
+    err_at _ c.in_err-found.field-0.0 _ c.from_residual.ensures.1
+    (carrying_stops g.D.Disk.faults g.D.Disk.lasts g.D.Disk.seen g.D.Disk.images (at c.args.input.now c.args.output.now c.args.self.now.reader c.args.self.now.interpreter.pending.items) (at c.lines.input c.lines.output c.lines.self.reader c.lines.self.interpreter.pending.items) (at c.turn.new.input c.turn.new.output c.turn.new.self.reader c.turn.new.self.interpreter.pending.items) c.args.self.now.interpreter.simulation c.lines.self.interpreter.simulation c.turn.new.self.interpreter.simulation c.lines.number (c.lines.number + 1) refl c.lines.invariant c.in_err-found.field-0.0 c.in_err-found.ensures.err)
 
 pub lines-preserved : goal.lines-preserved
-lines-preserved g c = (
-  carrying_more (seen_by g.D.Disk.seen) (images_by g.D.Disk.images) (streams c.args.self.now.reader (g.S.Source.left c.args.input.now) (g.K.Sink.taken c.args.output.now) c.args.self.now.interpreter.pending.items (g.S.Source.faults c.args.input.now) (g.K.Sink.faults c.args.output.now)) (streams c.lines.self.reader (g.S.Source.left c.lines.input) (g.K.Sink.taken c.lines.output) c.lines.self.interpreter.pending.items (g.S.Source.faults c.lines.input) (g.K.Sink.faults c.lines.output)) (streams c.turn.new.self.reader (g.S.Source.left c.turn.new.input) (g.K.Sink.taken c.turn.new.output) c.turn.new.self.interpreter.pending.items (g.S.Source.faults c.turn.new.input) (g.K.Sink.faults c.turn.new.output)) c.args.self.now.interpreter.simulation c.lines.self.interpreter.simulation c.turn.new.self.interpreter.simulation c.lines.number (c.lines.number + 1) (10 ∷ []) c.lines.invariant.0.carried (rw c.in-Ended.is at c.in_ok-turn.ensures.ok) refl refl c.in_ok-turn.ensures.setup,
-  lines_next g.D.Disk.faults (streams c.args.self.now.reader (g.S.Source.left c.args.input.now) (g.K.Sink.taken c.args.output.now) c.args.self.now.interpreter.pending.items (g.S.Source.faults c.args.input.now) (g.K.Sink.faults c.args.output.now)) (streams c.lines.self.reader (g.S.Source.left c.lines.input) (g.K.Sink.taken c.lines.output) c.lines.self.interpreter.pending.items (g.S.Source.faults c.lines.input) (g.K.Sink.faults c.lines.output)) (streams c.turn.new.self.reader (g.S.Source.left c.turn.new.input) (g.K.Sink.taken c.turn.new.output) c.turn.new.self.interpreter.pending.items (g.S.Source.faults c.turn.new.input) (g.K.Sink.faults c.turn.new.output)) c.args.self.now.interpreter.simulation.stores c.lines.self.interpreter.simulation.stores c.turn.new.self.interpreter.simulation.stores c.lines.invariant.1 c.in_ok-turn.ensures.paid,
-)
+lines-preserved g c =
+    let at = moment g.S.Source.left g.S.Source.faults g.K.Sink.taken g.K.Sink.faults in
+    carrying_more g.D.Disk.faults g.D.Disk.lasts g.D.Disk.seen g.D.Disk.images (at c.args.input.now c.args.output.now c.args.self.now.reader c.args.self.now.interpreter.pending.items) (at c.lines.input c.lines.output c.lines.self.reader c.lines.self.interpreter.pending.items) (at c.turn.new.input c.turn.new.output c.turn.new.self.reader c.turn.new.self.interpreter.pending.items) c.args.self.now.interpreter.simulation c.lines.self.interpreter.simulation c.turn.new.self.interpreter.simulation c.lines.number (c.lines.number + 1) refl c.lines.invariant c.in_ok-found.found (sym c.has_feed.ensures ∙ c.if-not-has_feed.false) c.in_ok-found.ensures.ok
 
-pub returns-in-Last-clause-ok : goal.returns-in-Last-clause-ok
-returns-in-Last-clause-ok g c = all_last (seen_by g.D.Disk.seen) (images_by g.D.Disk.images) (streams c.args.self.now.reader (g.S.Source.left c.args.input.now) (g.K.Sink.taken c.args.output.now) c.args.self.now.interpreter.pending.items (g.S.Source.faults c.args.input.now) (g.K.Sink.faults c.args.output.now)) (streams c.lines.self.reader (g.S.Source.left c.lines.input) (g.K.Sink.taken c.lines.output) c.lines.self.interpreter.pending.items (g.S.Source.faults c.lines.input) (g.K.Sink.faults c.lines.output)) (streams c.turn.new.self.reader (g.S.Source.left c.turn.new.input) (g.K.Sink.taken c.turn.new.output) c.turn.new.self.interpreter.pending.items (g.S.Source.faults c.turn.new.input) (g.K.Sink.faults c.turn.new.output)) c.args.self.now.interpreter.simulation c.lines.self.interpreter.simulation c.turn.new.self.interpreter.simulation c.lines.number c.lines.invariant.0.carried (c.lines.number + 1) (rw c.in-Last.is at c.in_ok-turn.ensures.ok) refl
+pub lines-smaller : goal.lines-smaller
+lines-smaller g c =
+    let at = moment g.S.Source.left g.S.Source.faults g.K.Sink.taken g.K.Sink.faults in
+    let within = within_feed g.D.Disk.faults g.D.Disk.lasts g.D.Disk.seen g.D.Disk.images c.in_ok-found.found (c.lines.number + 1) (at c.lines.input c.lines.output c.lines.self.reader c.lines.self.interpreter.pending.items) (at c.turn.new.input c.turn.new.output c.turn.new.self.reader c.turn.new.self.interpreter.pending.items) c.lines.self.interpreter.simulation c.turn.new.self.interpreter.simulation (sym c.has_feed.ensures ∙ c.if-not-has_feed.false) c.in_ok-found.ensures.ok in
+    omega (arith, within)
 
-pub returns-in-None-clause-ok : goal.returns-in-None-clause-ok
-returns-in-None-clause-ok g c = all_none (seen_by g.D.Disk.seen) (images_by g.D.Disk.images) (streams c.args.self.now.reader (g.S.Source.left c.args.input.now) (g.K.Sink.taken c.args.output.now) c.args.self.now.interpreter.pending.items (g.S.Source.faults c.args.input.now) (g.K.Sink.faults c.args.output.now)) (streams c.lines.self.reader (g.S.Source.left c.lines.input) (g.K.Sink.taken c.lines.output) c.lines.self.interpreter.pending.items (g.S.Source.faults c.lines.input) (g.K.Sink.faults c.lines.output)) (streams c.turn.new.self.reader (g.S.Source.left c.turn.new.input) (g.K.Sink.taken c.turn.new.output) c.turn.new.self.interpreter.pending.items (g.S.Source.faults c.turn.new.input) (g.K.Sink.faults c.turn.new.output)) c.args.self.now.interpreter.simulation c.lines.self.interpreter.simulation c.turn.new.self.interpreter.simulation c.lines.number c.lines.invariant.0.carried (rw c.in-None.is at c.in_ok-turn.ensures.ok) c.lines.invariant.0.bound
-
-pub returns-in_err-turn-clause-paid_so_far : goal.returns-in_err-turn-clause-paid_so_far
-returns-in_err-turn-clause-paid_so_far g c =
-    err_at _ c.in_err-turn.field-0.0 _ c.from_residual.ensures.1
-    (stop_next g.D.Disk.faults (streams c.args.self.now.reader (g.S.Source.left c.args.input.now) (g.K.Sink.taken c.args.output.now) c.args.self.now.interpreter.pending.items (g.S.Source.faults c.args.input.now) (g.K.Sink.faults c.args.output.now)) (streams c.lines.self.reader (g.S.Source.left c.lines.input) (g.K.Sink.taken c.lines.output) c.lines.self.interpreter.pending.items (g.S.Source.faults c.lines.input) (g.K.Sink.faults c.lines.output)) (streams c.turn.new.self.reader (g.S.Source.left c.turn.new.input) (g.K.Sink.taken c.turn.new.output) c.turn.new.self.interpreter.pending.items (g.S.Source.faults c.turn.new.input) (g.K.Sink.faults c.turn.new.output)) c.args.self.now.interpreter.simulation.stores c.lines.self.interpreter.simulation.stores c.turn.new.self.interpreter.simulation.stores c.lines.invariant.1 c.in_err-turn.field-0.0 c.in_err-turn.ensures.paid_so_far)
-
-pub returns-in-Last-clause-paid : goal.returns-in-Last-clause-paid
-returns-in-Last-clause-paid g c = lines_next g.D.Disk.faults (streams c.args.self.now.reader (g.S.Source.left c.args.input.now) (g.K.Sink.taken c.args.output.now) c.args.self.now.interpreter.pending.items (g.S.Source.faults c.args.input.now) (g.K.Sink.faults c.args.output.now)) (streams c.lines.self.reader (g.S.Source.left c.lines.input) (g.K.Sink.taken c.lines.output) c.lines.self.interpreter.pending.items (g.S.Source.faults c.lines.input) (g.K.Sink.faults c.lines.output)) (streams c.turn.new.self.reader (g.S.Source.left c.turn.new.input) (g.K.Sink.taken c.turn.new.output) c.turn.new.self.interpreter.pending.items (g.S.Source.faults c.turn.new.input) (g.K.Sink.faults c.turn.new.output)) c.args.self.now.interpreter.simulation.stores c.lines.self.interpreter.simulation.stores c.turn.new.self.interpreter.simulation.stores c.lines.invariant.1 c.in_ok-turn.ensures.paid
-
-pub returns-in-None-clause-paid : goal.returns-in-None-clause-paid
-returns-in-None-clause-paid g c = lines_next g.D.Disk.faults (streams c.args.self.now.reader (g.S.Source.left c.args.input.now) (g.K.Sink.taken c.args.output.now) c.args.self.now.interpreter.pending.items (g.S.Source.faults c.args.input.now) (g.K.Sink.faults c.args.output.now)) (streams c.lines.self.reader (g.S.Source.left c.lines.input) (g.K.Sink.taken c.lines.output) c.lines.self.interpreter.pending.items (g.S.Source.faults c.lines.input) (g.K.Sink.faults c.lines.output)) (streams c.turn.new.self.reader (g.S.Source.left c.turn.new.input) (g.K.Sink.taken c.turn.new.output) c.turn.new.self.interpreter.pending.items (g.S.Source.faults c.turn.new.input) (g.K.Sink.faults c.turn.new.output)) c.args.self.now.interpreter.simulation.stores c.lines.self.interpreter.simulation.stores c.turn.new.self.interpreter.simulation.stores c.lines.invariant.1 c.in_ok-turn.ensures.paid
+pub returns-then-not-has_feed-clause-ok : goal.returns-then-not-has_feed-clause-ok
+returns-then-not-has_feed-clause-ok g c =
+    let at = moment g.S.Source.left g.S.Source.faults g.K.Sink.taken g.K.Sink.faults in
+    carries_all g.D.Disk.faults g.D.Disk.lasts g.D.Disk.seen g.D.Disk.images (at c.args.input.now c.args.output.now c.args.self.now.reader c.args.self.now.interpreter.pending.items) (at c.lines.input c.lines.output c.lines.self.reader c.lines.self.interpreter.pending.items) (at c.turn.new.input c.turn.new.output c.turn.new.self.reader c.turn.new.self.interpreter.pending.items) c.args.self.now.interpreter.simulation c.lines.self.interpreter.simulation c.turn.new.self.interpreter.simulation c.lines.number (c.lines.number + 1) refl c.lines.invariant c.in_ok-found.found (sym c.has_feed.ensures ∙ c.if-not-has_feed.true) c.in_ok-found.ensures.ok

@@ -1,23 +1,16 @@
 use Rattle.std.proofs.Common.{◌-◌, ◌^◌}
-use Rattle.mds_cli.specs.Stops.{PaysLines}
-use Rattle.mds_cli.specs.Streams.{streams}
-use Rattle.simulation.specs.Fuses.{seen_by, images_by}
-use Rattle.mds_cli.proofs.Carrying.{Carrying}
+use Rattle.mds_cli.specs.Streams.{moment}
+use Rattle.mds_cli.proofs.LinesCarried.{Carrying}
 use Rattle.mds_cli.proofs.session.Session.carry.Given as goal
 
--- the lines before were carried out, and their stops are paid
+-- the lines before were carried out
 abbrev pub invariant-lines : goal.invariant-lines
 invariant-lines g l =
-    let left = g.S.Source.left in
-    let taken = g.K.Sink.taken in
-    (Carrying (seen_by g.D.Disk.seen) (images_by g.D.Disk.images)
-    (streams l.fn.self.reader (left l.fn.input) (taken l.fn.output) l.fn.self.interpreter.pending.items (g.S.Source.faults l.fn.input) (g.K.Sink.faults l.fn.output))
-    (streams l.self.reader (left l.input) (taken l.output) l.self.interpreter.pending.items (g.S.Source.faults l.input) (g.K.Sink.faults l.output))
-    l.fn.self.interpreter.simulation l.self.interpreter.simulation l.number)
-    × PaysLines g.D.Disk.faults
-    (streams l.fn.self.reader (left l.fn.input) (taken l.fn.output) l.fn.self.interpreter.pending.items (g.S.Source.faults l.fn.input) (g.K.Sink.faults l.fn.output))
-    (streams l.self.reader (left l.input) (taken l.output) l.self.interpreter.pending.items (g.S.Source.faults l.input) (g.K.Sink.faults l.output))
-    l.fn.self.interpreter.simulation.stores l.self.interpreter.simulation.stores
+    let at = moment g.S.Source.left g.S.Source.faults g.K.Sink.taken g.K.Sink.faults in
+    Carrying g.D.Disk.faults g.D.Disk.lasts g.D.Disk.seen g.D.Disk.images
+    (at l.fn.input l.fn.output l.fn.self.reader l.fn.self.interpreter.pending.items)
+    (at l.input l.output l.self.reader l.self.interpreter.pending.items)
+    l.fn.self.interpreter.simulation l.self.interpreter.simulation l.number
 
 abbrev pub decreases-lines : goal.decreases-lines
 decreases-lines g l = 2 ^ 22 - l.number

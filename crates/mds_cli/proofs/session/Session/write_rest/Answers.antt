@@ -1,6 +1,6 @@
 use Rattle.std.proofs.Common.{subst, ◌++◌, codes}
 use Rattle.std.specs.Io.KnownBytes.{Appends}
-use Rattle.mds_cli.proofs.Turning.{front_then, front_all, appends_both}
+use Rattle.mds_cli.proofs.Known.{front_then, front_all, appends_both}
 use Rattle.mds_cli.proofs.session.Session.write_rest.Goals as goal
 
 pub returns-in_err-write_whole-clause-front : goal.returns-in_err-write_whole-clause-front

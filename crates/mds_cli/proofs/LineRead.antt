@@ -8,7 +8,7 @@ use Rattle.mds_out.specs.Stream.{TakesFront}
 use Rattle.mds_out.proofs.Streams.{front_grows}
 use Rattle.mds_cli.specs.Lines.{IsPart}
 use Rattle.mds_cli.specs.Streams.{Streams, streams, Flows, IsQuiet, EndsLine, GoesOn, PassesLimit, ReadsEnded, ReadsLast, ReadsNone, StopsLong, StopsReading, StopsWriting, BeginsLong, Ends}
-use Rattle.mds_cli.proofs.Parts.{lacks-append}
+use Rattle.mds_cli.proofs.ByteParts.{lacks-append}
 
 pub is_nil : (bytes : List ℕ) → length bytes ≡ 0 → bytes ≡ []
 is_nil [] none = refl

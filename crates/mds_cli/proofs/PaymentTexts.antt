@@ -1,41 +1,37 @@
 -- Stops that a text tells, and fuses that lines arm.
 use Rattle.std.proofs.Common.{◌≡◌, ◌∙◌, sym, ap, subst, refl, ℕ, ◌+◌, ◌≤◌, ◌==◌, Bool, true, false, not, cond, if◌then◌else◌, nat_eq, List, [], ◌∷◌, ◌++◌, length, take, drop, append_assoc, Option, Some, None, codes, decimal, inl, inr, arith}
 use Rattle.std.specs.Cmp.Lexicographic.{pointwise}
-use Rattle.std.specs.Io.KnownBytes.{Consumes}
 use Rattle.std.specs.Fmt.{digits}
 use Rattle.std.specs.List.{AllByRecursion, list_all}
 use Rattle.std.proofs.lemmas.Bool.{true≢false, and_parts, and_from, eqb-true}
-use Rattle.std.proofs.lemmas.List.{append-nil, take-append-drop}
+use Rattle.std.proofs.lemmas.List.{take-append-drop}
 use Rattle.std.proofs.lemmas.Slice.Eq.{bytes_eq-Decides}
 use Rattle.mds_base.specs.declared.setup.Setup.{Setup}
-use Rattle.mds_out.specs.Known.{OnKnown, OnTold}
 use Rattle.mds_out.specs.Stream.{TakesFront}
 use Rattle.script.specs.Grammar.{AreSpelled, IsLine, line_parts}
 use Rattle.script.specs.Words.{words_of}
 use Rattle.script.proofs.Printing.{words_said}
 use Rattle.script.specs.declared.line.Line.{Line}
 use Rattle.script.specs.declared.line.Line.TheVariants as lines
-use Rattle.simulation.specs.Licences.{once_at}
+use Rattle.simulation.specs.Payments.{once_at}
 use Rattle.interpreter.specs.Payments.{IsPrinted, TellsNoStop, has_no_feed, text_of, times, stopped_line, fuses_of}
-use Rattle.interpreter.proofs.Paying.{times_append}
+use Rattle.interpreter.proofs.Payments.{times_append}
 use Rattle.mds_cli.specs.Follows.{Says}
 use Rattle.mds_cli.specs.Lines.{IsPart, lines_of, ended_lines, onto_ended, without_return}
-use Rattle.mds_cli.specs.Run.{BeginsWith}
-use Rattle.mds_cli.specs.Stops.{stops_told, arms, fuses_armed, OnTaken}
-use Rattle.mds_cli.specs.Streams.{Ends}
-use Rattle.mds_cli.proofs.Scripts.{first_ended, lines_front, last_line}
+use Rattle.mds_cli.specs.Payments.{stops_told, arms, fuses_armed, OnTaken}
+use Rattle.mds_cli.proofs.ScriptLines.{first_ended}
 
-fewer : (b c : Bool) → (b ≡ true → c ≡ true) → (if b then 1 else 0) ≤ (if c then 1 else 0)
+pub fewer : (b c : Bool) → (b ≡ true → c ≡ true) → (if b then 1 else 0) ≤ (if c then 1 else 0)
 fewer false c f = omega arith
 fewer true true f = omega arith
 fewer true false f = absurd (true≢false (sym (f refl)))
 
-equal_bytes : (xs ys : List ℕ) → xs ≡ ys → pointwise nat_eq xs ys ≡ true
+pub equal_bytes : (xs ys : List ℕ) → xs ≡ ys → pointwise nat_eq xs ys ≡ true
 equal_bytes xs ys same = (bytes_eq-Decides xs ys).1 same
 
 -- ---- lines of a text
 
-clean_part : (bytes : List ℕ) → has_no_feed bytes ≡ true → IsPart bytes
+pub clean_part : (bytes : List ℕ) → has_no_feed bytes ≡ true → IsPart bytes
 clean_part [] clean = refl
 clean_part (byte ∷ bytes) clean =
     let both = and_parts (not (byte == 10)) (has_no_feed bytes) clean in
@@ -133,36 +129,6 @@ line_fuses setup bytes line says s = one_armed (fuses_of line s) (if arms (words
     by (lines.Rmdir client dir name) (inr said) = none_armed (if arms (words_of (without_return bytes)) s then 1 else 0)
     by (lines.Feed server) (inr said) = none_armed (if arms (words_of (without_return bytes)) s then 1 else 0)
     by (lines.Promote server) (inr said) = none_armed (if arms (words_of (without_return bytes)) s then 1 else 0)
-
--- a line that was read
-first_armed : (line : List ℕ) (more all : List (List ℕ)) (s : ℕ) → all ≡ line ∷ more → fuses_armed (line ∷ []) s + fuses_armed more s ≤ fuses_armed all s
-first_armed line more all s is = let e = ap (λ ls. fuses_armed ls s) is in omega (arith, e)
-
-pub ended_armed : (before now : Option (List ℕ)) (line : List ℕ) → IsPart line → Consumes before now (line ++ 10 ∷ []) → (s : ℕ) → OnKnown before now (λ all left. fuses_armed (line ∷ []) s + fuses_armed (lines_of left) s ≤ fuses_armed (lines_of all) s)
-ended_armed None now line part consumed s = tt
-ended_armed (Some all) None line part consumed s = absurd consumed
-ended_armed (Some all) (Some left) line part consumed s = first_armed line (lines_of left) (lines_of all) s (ap lines_of consumed ∙ lines_front (line ∷ []) left (part, tt))
-
-pub last_armed : (before now : Option (List ℕ)) (line : List ℕ) → IsPart line → 1 ≤ length line → Consumes before now line → Ends before now → (s : ℕ) → OnKnown before now (λ all left. fuses_armed (line ∷ []) s + fuses_armed (lines_of left) s ≤ fuses_armed (lines_of all) s)
-last_armed None now line part some consumed ends s = tt
-last_armed (Some all) None line part some consumed ends s = absurd consumed
-last_armed (Some all) (Some left) line part some consumed ends s =
-    subst (λ l. fuses_armed (line ∷ []) s + fuses_armed (lines_of l) s ≤ fuses_armed (lines_of all) s) (sym ends)
-    (first_armed line [] (lines_of all) s (ap lines_of (consumed ∙ ap (λ l. line ++ l) ends ∙ append-nil line) ∙ last_line line part some))
-
-pub none_read : (before now : Option (List ℕ)) → Consumes before now [] → (s : ℕ) → OnKnown before now (λ all left. 0 + fuses_armed (lines_of left) s ≤ fuses_armed (lines_of all) s)
-none_read None now consumed s = tt
-none_read (Some all) None consumed s = absurd consumed
-none_read (Some all) (Some left) consumed s = let e = ap (λ b. fuses_armed (lines_of b) s) consumed in omega (arith, e)
-
--- a line that the unread bytes begin with
-pub begun_armed : (unread : Option (List ℕ)) (line : List ℕ) → OnTold unread (BeginsWith [] (line ∷ [])) → (s : ℕ) → OnTold unread (λ all. fuses_armed (line ∷ []) s ≤ fuses_armed (lines_of all) s)
-begun_armed None line begins s = tt
-begun_armed (Some all) line begins s = let e = ap (λ ls. fuses_armed ls s) begins.1 in omega (arith, e)
-
-pub none_begun : (unread : Option (List ℕ)) (s : ℕ) → OnTold unread (λ all. 0 ≤ fuses_armed (lines_of all) s)
-none_begun None s = tt
-none_begun (Some all) s = none_armed (fuses_armed (lines_of all) s)
 
 -- ---- worked rows
 

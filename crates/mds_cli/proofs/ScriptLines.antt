@@ -48,12 +48,21 @@ none_ended (byte ∷ bytes) part =
     ap (λ b. cond b ([] ∷ ended_lines bytes) (onto_ended byte (ended_lines bytes))) (no_feed byte bytes part)
     ∙ ap (onto_ended byte) (none_ended bytes (rest_part byte bytes part))
 
-pub ended_front : (lines : List (List ℕ)) (part : List ℕ) → AllByRecursion IsPart lines → IsPart part → ended_lines (with_feeds lines ++ part) ≡ lines
-ended_front [] part parts is_part = none_ended part is_part
-ended_front (line ∷ lines) part parts is_part =
-    ap ended_lines (append_assoc line (10 ∷ with_feeds lines) part)
-    ∙ first_ended line (with_feeds lines ++ part) parts.0
-    ∙ ap (λ ls. line ∷ ls) (ended_front lines part parts.1 is_part)
+pub ended_front : (lines : List (List ℕ)) (rest : List ℕ) → AllByRecursion IsPart lines → ended_lines (with_feeds lines ++ rest) ≡ lines ++ ended_lines rest
+ended_front [] rest parts = refl
+ended_front (line ∷ lines) rest parts =
+    ap ended_lines (append_assoc line (10 ∷ with_feeds lines) rest)
+    ∙ first_ended line (with_feeds lines ++ rest) parts.0
+    ∙ ap (λ ls. line ∷ ls) (ended_front lines rest parts.1)
+
+-- one line more
+pub feeds_push : (lines : List (List ℕ)) (line : List ℕ) → with_feeds (lines ++ line ∷ []) ≡ with_feeds lines ++ (line ++ 10 ∷ [])
+feeds_push [] line = refl
+feeds_push (first ∷ lines) line = ap (λ l. first ++ 10 ∷ l) (feeds_push lines line) ∙ sym (append_assoc first (10 ∷ with_feeds lines) (line ++ 10 ∷ []))
+
+pub parts_push : (lines : List (List ℕ)) (line : List ℕ) → AllByRecursion IsPart lines → IsPart line → AllByRecursion IsPart (lines ++ line ∷ [])
+parts_push [] line parts part = (part, tt)
+parts_push (first ∷ lines) line parts part = (parts.0, parts_push lines line parts.1 part)
 
 -- a last line, and one that is as long as the part of it that was seen
 pub last_line : (line : List ℕ) → IsPart line → 1 ≤ length line → lines_of line ≡ line ∷ []

@@ -11,7 +11,7 @@ use Rattle.world.specs.declared.event.Event.{Event}
 use Rattle.world.specs.Events.{enabled, all_enabled}
 use Rattle.world.specs.Histories.{run}
 use Rattle.interpreter.specs.Story.{grown_by, all_may, is_allowed}
-use Rattle.interpreter.proofs.Stepping.{grown_append, may_append}
+use Rattle.interpreter.proofs.EventsText.{grown_append, may_append}
 use Rattle.mds_cli.specs.Follows.{Says, IsBad, IsCarriedOut, Follows}
 use Rattle.mds_cli.specs.Lines.{without_return}
 
@@ -25,23 +25,18 @@ pub enabled_grown : (r : RunV) (events : List Event) → all_may r events ≡ al
 enabled_grown r [] = refl
 enabled_grown r (event ∷ events) = ap (λ b. enabled r.trace.world event && b) (enabled_grown (grown r event) events)
 
--- ---- one line more
+-- ---- lines behind lines
 
-pub follows_push : (setup : Setup) (r : RunV) (lines : List (List ℕ)) (events : List Event) (line : List ℕ) (more : List Event) → Follows setup r lines events → IsCarriedOut setup (grown_by r events) line more
-    → Follows setup r (lines ++ line ∷ []) (events ++ more)
-follows_push setup r [] events line more none carried =
-    (more, [], ap (λ e. e ++ more) none ∙ sym (append-nil more), subst (λ e. IsCarriedOut setup (grown_by r e) line more) none carried, refl)
-follows_push setup r (first ∷ lines) events line more f carried = (
+pub follows_join : (setup : Setup) (r : RunV) (lines more : List (List ℕ)) (events later : List Event) → Follows setup r lines events → Follows setup (grown_by r events) more later
+    → Follows setup r (lines ++ more) (events ++ later)
+follows_join setup r [] more events later none f = subst (λ e. Follows setup r more (e ++ later)) (sym none) (subst (λ e. Follows setup (grown_by r e) more later) none f)
+follows_join setup r (first ∷ lines) more events later f g = (
   f.0,
-  f.1 ++ more,
-  ap (λ e. e ++ more) f.2 ∙ append_assoc f.0 f.1 more,
+  f.1 ++ later,
+  ap (λ e. e ++ later) f.2 ∙ append_assoc f.0 f.1 later,
   f.3,
-  follows_push setup (grown_by r f.0) lines f.1 line more f.4 (subst (λ q. IsCarriedOut setup q line more) (ap (grown_by r) f.2 ∙ grown_append r f.0 f.1) carried),
+  follows_join setup (grown_by r f.0) lines more f.1 later f.4 (subst (λ q. Follows setup q more later) (ap (grown_by r) f.2 ∙ grown_append r f.0 f.1) g),
 )
-
-pub follows_may : (setup : Setup) (r : RunV) (lines : List (List ℕ)) (events : List Event) → Follows setup r lines events → all_may r events ≡ true
-follows_may setup r [] events none = ap (all_may r) none
-follows_may setup r (line ∷ lines) events f = ap (all_may r) f.2 ∙ may_append r f.0 f.1 f.3.may (follows_may setup (grown_by r f.0) lines f.1 f.4)
 
 -- ---- bad lines
 
