@@ -46,7 +46,7 @@ pub record OfEach (P : Plan → Type 0) (part : Partition) (rows : RowMap) (dir 
 
 module _ (P : Plan → Type 0) (part : Partition) (rows : RowMap) (dir number : ℕ) (ask : Ask) (now : ℕ) (fresh : ℕ) where
   waited : (on : CallOn) → OfEach P part rows dir number ask now fresh on → (key : RowKey) → P (carried_at part rows key ask now fresh) → (b : Bool)
-      → must_wait part key (edit_at rows key ask fresh) (map.get rows key) now ≡ b → P (name_plan part key ask (map.get rows key) now fresh)
+      → must_wait part.leases key (edit_at rows key ask fresh) (map.get rows key) now ≡ b → P (name_plan part key ask (map.get rows key) now fresh)
   waited on each key carried true is = rw is (each.idle _)
   waited on each key carried false is = rw is carried
 

@@ -77,7 +77,8 @@ few_law part rows dir number d name ask now setup fresh asked = plan_is (λ plan
   whole = λ e p is. no_name d name true (OnPartition e p) (sym asked ∙ is) refl;
 })
 
-first_none : (rows left : RowMap) (edits : List RowEdit) (made : ℕ) → length edits ≤ 1 → made ≤ length edits - 1 → left ≡ written rows (take made edits) → left ≡ rows
+-- of one edit at most none is made in part
+pub first_none : (rows left : RowMap) (edits : List RowEdit) (made : ℕ) → length edits ≤ 1 → made ≤ length edits - 1 → left ≡ written rows (take made edits) → left ≡ rows
 first_none rows left edits zero few within is = is
 first_none rows left edits (suc made) few within is = absurd (omega arith)
 

@@ -16,7 +16,7 @@ use Rattle.mds_base.specs.RowKeys.{RowMap, edited_count}
 use Rattle.sessions.specs.declared.kept.Judged.{Judged}
 use Rattle.sessions.specs.declared.kept.Judged.TheVariants.{New, Again, Old}
 use Rattle.sessions.specs.Kept.{judged}
-use Rattle.leases.specs.Leases.{held_until}
+use Rattle.leases.specs.Leases.{LeasesV, held_until, unleased}
 use Rattle.partition.specs.declared.edits.RowEdit.{RowEdit}
 use Rattle.partition.specs.declared.plan.Step.{Step}
 use Rattle.partition.specs.declared.plan.Step.TheVariants as steps
@@ -48,14 +48,18 @@ carry_plan ask said edits count now = record {
   moment = now;
 }
 
+-- the partition with its leases and its floor set aside, as it is known from a log: nothing waits
+abbrev pub aside : Partition → Partition
+aside part = record part { leases = unleased 0 }
+
 -- whether an edit has to wait: it changes an entry on which a lease may be live
-abbrev pub must_wait : Partition → RowKey → Edit → Option Attr → ℕ → Bool
-must_wait part key edit before now = waits edit before && nat_lt now (held_until part.leases key.name)
+abbrev pub must_wait : LeasesV → RowKey → Edit → Option Attr → ℕ → Bool
+must_wait leases key edit before now = waits edit before && nat_lt now (held_until leases key.name)
 
 -- a change on a name with this reply and this edit
 abbrev pub edit_plan : Partition → RowKey → Ask → Option Attr → Final → Edit → ℕ → Plan
 edit_plan part key ask before said edit now =
-    if must_wait part key edit before now
+    if must_wait part.leases key edit before now
     then unchanging (steps.Held (held_until part.leases key.name)) now
     else carry_plan ask said (edits_of key edit) (edited_count part.count edit before) now
 

@@ -140,7 +140,7 @@ fn is_added(added: &mut MapRows, key: &RowKey) -> bool
 }
 
 /// Makes edits, in their order. Where one is refused those before it were made.
-pub fn write<R: Rows>(alloc: Global, rows: &mut R, edits: &[RowEdit]) -> Result<(), RowsFault>
+pub fn write_edits<R: Rows>(alloc: Global, rows: &mut R, edits: &[RowEdit]) -> Result<(), RowsFault>
     ensures ok { OnOk result (R.contents rows.new ≡ written (R.contents rows.old) edits.now) }
     ensures err { OnErr result (IsInPart (R.contents rows.old) edits.now (R.contents rows.new)) }
     ensures cause { HasRowsCause (R.faults rows.old) (R.faults rows.new) result }

@@ -14,7 +14,7 @@ mod partition;
 mod plan;
 mod replies;
 
-pub use edits::{EditList, RowEdit};
+pub use edits::{EditList, RowEdit, write_edits};
 pub use law::laws_of_serving;
 pub use partition::Partition;
 pub use plan::{Change, Plan, Step};

@@ -8,11 +8,11 @@ ghost use Rattle.sessions.specs.Kept.{judged};
 ghost use Rattle.partition.specs.Rows.{load_edits, written};
 ghost use Rattle.partition.specs.Replies.{IsServed, rows_of};
 ghost use Rattle.partition.specs.Planning.{plan_part, look_plan, name_plan, load_plan};
-ghost use Rattle.partition.specs.Planning.{change_plan, new_plan, must_wait};
+ghost use Rattle.partition.specs.Planning.{change_plan, new_plan, must_wait, aside};
 ghost use Rattle.partition.specs.Serving.{empty_part, part_of, changed, part_noted, part_made, rows_made};
 ghost use Rattle.partition.specs.Serving.{edits_in, serve_part, IsNewer, IsInPart, IsServedPart};
 
-use crate::edits::{RowEdit, edits_of_load, list_of, write};
+use crate::edits::{RowEdit, edits_of_load, list_of, write_edits};
 use crate::plan::{Change, Plan, Step};
 use crate::replies::{count_after, count_more, number_of, rows_of, said_to, waits};
 use leases::Leases;
@@ -137,7 +137,7 @@ impl Partition {
         match ask.call.asked() {
             Asked::Name { name, changes, .. } => {
                 if changes {
-                    return self.plan_change(alloc, rows, dir, part, ask, now, fresh);
+                    return self.plan_change(alloc, rows, dir, part, ask, now, fresh, &self.leases);
                 }
                 self.plan_look(
                     alloc,
@@ -147,9 +147,34 @@ impl Partition {
                     setup.lease,
                 )
             }
-            Asked::Directory { .. } => self.plan_change(alloc, rows, dir, part, ask, now, fresh),
-            Asked::Partition { .. } => self.plan_change(alloc, rows, dir, part, ask, now, fresh),
+            Asked::Directory { .. } => {
+                self.plan_change(alloc, rows, dir, part, ask, now, fresh, &self.leases)
+            }
+            Asked::Partition { .. } => {
+                self.plan_change(alloc, rows, dir, part, ask, now, fresh, &self.leases)
+            }
         }
+    }
+
+    /// Works a change out as `plan` does, with leases and floors set aside: it waits for nothing, and drops no lease.
+    /// So is worked out what a record tells of. Nothing changes.
+    pub fn plan_aside<R: Rows>(
+        &self,
+        alloc: Global,
+        rows: &mut R,
+        dir: u64,
+        part: u32,
+        ask: &Ask,
+        fresh: u64,
+    ) -> Result<Plan, RowsFault>
+        ensures ok { IfOk result (λ plan. plan
+            ≡ change_plan (aside self.now) (R.contents rows.old) dir part ask.now 0 fresh (asked_of ask.now.call)) }
+        ensures newer { IfOk result (λ plan. IsNewer self.now plan.change) }
+        ensures rows { R.contents rows.new ≡ R.contents rows.old }
+        ensures cause { HasRowsCause (R.faults rows.old) (R.faults rows.new) result }
+    {
+        let none = Leases::new(alloc, 0);
+        self.plan_change(alloc, rows, dir, part, ask, 0, fresh, &none)
     }
 
     /// Makes a plan that was worked out against this partition, as it still is; its step is then what serving comes to.
@@ -203,8 +228,10 @@ impl Partition {
         }
     }
 
-    // Notes a change and writes its rows. The note comes first, since it can be taken back without memory.
-    fn note<R: Rows>(
+    /// Notes a change of a client and edits rows, as `make` does for a plan that notes; leases stay as they are. The
+    /// note comes first, since it can be taken back without memory. Where it is refused the partition stays as it is,
+    /// and the rows are as `make` says.
+    pub fn note<R: Rows>(
         &mut self,
         alloc: Global,
         rows: &mut R,
@@ -222,7 +249,7 @@ impl Partition {
         let Session { client, seq, said } = session;
         let kept = self.sessions.kept(client);
         self.sessions.note(client, seq, said)?;
-        match write(alloc, rows, edits) {
+        match write_edits(alloc, rows, edits) {
             Ok(()) => {
                 self.count = count;
                 Ok(())
@@ -265,15 +292,17 @@ impl Partition {
         ask: &Ask,
         now: u64,
         fresh: u64,
+        leases: &Leases,
     ) -> Result<Plan, RowsFault>
         ensures ok { IfOk result (λ plan.
-            plan ≡ change_plan self.now (R.contents rows.old) dir part ask.now now fresh (asked_of ask.now.call)) }
+            plan ≡ change_plan (record self.now { leases = leases.now }) (R.contents rows.old) dir part ask.now now
+            fresh (asked_of ask.now.call)) }
         ensures newer { IfOk result (λ plan. IsNewer self.now plan.change) }
         ensures rows { R.contents rows.new ≡ R.contents rows.old }
         ensures cause { HasRowsCause (R.faults rows.old) (R.faults rows.new) result }
     {
         match self.sessions.judge(ask.client, ask.seq) {
-            Judged::New => self.plan_new(alloc, rows, dir, part, ask, now, fresh),
+            Judged::New => self.plan_new(alloc, rows, dir, part, ask, now, fresh, leases),
             Judged::Again(said) => Ok(Plan::unchanging(Step::Said(Reply::Said(said)), now)),
             Judged::Old { kept } => Ok(Plan::unchanging(Step::Old { kept }, now)),
         }
@@ -288,10 +317,12 @@ impl Partition {
         ask: &Ask,
         now: u64,
         fresh: u64,
+        leases: &Leases,
     ) -> Result<Plan, RowsFault>
         requires newer { judged self.now.sessions ask.now.client ask.now.seq ≡ Judged.New }
         ensures ok { IfOk result (λ plan.
-            plan ≡ new_plan self.now (R.contents rows.old) dir part ask.now now fresh (asked_of ask.now.call)) }
+            plan ≡ new_plan (record self.now { leases = leases.now }) (R.contents rows.old) dir part ask.now now fresh
+            (asked_of ask.now.call)) }
         ensures newer { IfOk result (λ plan. IsNewer self.now plan.change) }
         ensures rows { R.contents rows.new ≡ R.contents rows.old }
         ensures cause { HasRowsCause (R.faults rows.old) (R.faults rows.new) result }
@@ -299,7 +330,7 @@ impl Partition {
         match ask.call.asked() {
             Asked::Name { name, .. } => {
                 let key = row_key(alloc, dir, part, name)?;
-                self.plan_name(alloc, rows, key, ask, now, fresh)
+                self.plan_name(alloc, rows, key, ask, now, fresh, leases)
             }
             Asked::Directory { .. } => self.plan_load(alloc, rows, dir, part, ask, now),
             Asked::Partition { .. } => self.plan_load(alloc, rows, dir, part, ask, now),
@@ -314,10 +345,12 @@ impl Partition {
         ask: &Ask,
         now: u64,
         fresh: u64,
+        leases: &Leases,
     ) -> Result<Plan, RowsFault>
         requires newer { judged self.now.sessions ask.now.client ask.now.seq ≡ Judged.New }
         ensures ok { IfOk result (λ plan.
-            plan ≡ name_plan self.now key ask.now (map.get (R.contents rows.old) key) now fresh) }
+            plan ≡ name_plan (record self.now { leases = leases.now }) key ask.now
+            (map.get (R.contents rows.old) key) now fresh) }
         ensures newer { IfOk result (λ plan. IsNewer self.now plan.change) }
         ensures rows { R.contents rows.new ≡ R.contents rows.old }
         ensures cause { HasRowsCause (R.faults rows.old) (R.faults rows.new) result }
@@ -325,19 +358,13 @@ impl Partition {
         let before = rows.get(&key)?;
         let said = said_to(&ask.call, before, fresh);
         let edit = Edit::of(&ask.call, said, before);
-        if self.must_wait(&key, edit, before, now) {
-            let until = self.leases.held_until(&key.name);
+        if must_wait(leases, &key, edit, before, now) {
+            let until = leases.held_until(&key.name);
             return Ok(Plan::unchanging(Step::Held { until }, now));
         }
         let count = count_after(self.count, edit, before)?;
         let edits = list_of(alloc, key, edit)?;
         Ok(Plan::carrying(ask, said, edits, count, now))
-    }
-
-    fn must_wait(&self, key: &RowKey, edit: Edit, before: Option<Attr>, now: u64) -> bool
-        ensures { result ≡ must_wait self.now key.now edit before now }
-    {
-        waits(edit, before) && now < self.leases.held_until(&key.name)
     }
 
     fn plan_load<R: Rows>(
@@ -362,4 +389,11 @@ impl Partition {
         let count = count_more(self.count, added)?;
         Ok(Plan::carrying(ask, said, edits, count, now))
     }
+}
+
+// Whether an edit has to wait for one of these leases.
+fn must_wait(leases: &Leases, key: &RowKey, edit: Edit, before: Option<Attr>, now: u64) -> bool
+    ensures { result ≡ must_wait leases.now key.now edit before now }
+{
+    waits(edit, before) && now < leases.held_until(&key.name)
 }

@@ -1,6 +1,6 @@
 use Rattle.std.proofs.Common.{◌≡◌, take}
 use Rattle.partition.specs.Rows.{written}
-use Rattle.partition.proofs.edits.write.Given as goal
+use Rattle.partition.proofs.edits.write_edits.Given as goal
 
 abbrev pub invariant-loop-edit : goal.invariant-loop-edit
 invariant-loop-edit g l = record {

@@ -1,6 +1,6 @@
 use Rattle.std.proofs.Common.{◌∙◌, arith}
 use Rattle.partition.proofs.Loading.{made_more}
-use Rattle.partition.proofs.edits.write.Goals as goal
+use Rattle.partition.proofs.edits.write_edits.Goals as goal
 
 pub loop-edit-preserved : goal.loop-edit-preserved
 loop-edit-preserved g c = record {
