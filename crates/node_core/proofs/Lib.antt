@@ -2,10 +2,11 @@ pub mod Calls
 pub mod Keys
 pub mod Views
 pub mod Parts
+pub mod Bitmaps
 pub mod Served
+pub mod Worked
+pub mod Planned
 pub mod Replayed
 pub mod ReplayLaw
-pub mod Undoes
-pub mod Planned
-pub mod Copies
 pub mod OnTerms
+pub mod Durably

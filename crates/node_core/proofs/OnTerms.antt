@@ -9,8 +9,8 @@ use Rattle.mds_base.specs.RowKeys.{RowMap}
 use Rattle.records.specs.declared.record.Record.{Record}
 use Rattle.records.specs.declared.record.Record.TheVariants.{Head, Opened, Served}
 use Rattle.sessions.specs.Kept.{judge_kept}
-use Rattle.node_core.specs.Nodes.{NodeV, NodeAndRows, owns, server_for, session_in, noted_in, rows_after, has_numbers, is_new}
-use Rattle.node_core.specs.Rules.{Asked, ChangeOf, LookOf, NotServed, asked_of, said_in, Silent, Looks, by_judged, outcome_of}
+use Rattle.node_core.specs.Nodes.{NodeV, NodeAndRows, part_for, owns, server_for, session_in, row_in, noted_in, rows_after, has_numbers, is_new}
+use Rattle.node_core.specs.Rules.{Asked, ChangeOf, LookOf, NotServed, asked_of, said_of, said_in, Silent, Looks, by_judged, outcome_of}
 use Rattle.node_core.specs.Serving.{ask_of, carries, carried_at, may_follow, part_at, replayed, replayed_as, replayed_all}
 use Rattle.node_core.specs.Terms.{SharesHead, node_on, store_on, ReplaysOn, ReplaysOnAllTerms}
 
@@ -23,19 +23,32 @@ noted_on : (node : NodeV) (terms : Setup) (rows : RowMap) (dir part : ℕ) (name
 unfolding noted_in
 noted_on node terms rows dir part name client seq call said = refl
 
+located_on : (node : NodeV) (terms : Setup) (dir : ℕ) (name : List ℕ) → part_for (node_on terms node) dir name ≡ part_for node dir name
+unfolding part_for
+located_on node terms dir name = refl
+
 look_carries : (b : Bool) (reply : Reply) (said : Final) → carries (cond b (Looks reply) Silent) said ≡ false
 look_carries true reply said = refl
 look_carries false reply said = refl
 
 module _ (store : NodeAndRows) (terms : Setup) where
+  -- the store once a change was carried out in a partition, on these terms
+  abbrev carried_by : ℕ → ℕ → Call → ℕ → List ℕ → ℕ → NodeAndRows
+  carried_by client seq call dir name part = record {
+    node = noted_in (node_on terms store.node) store.rows dir part name client seq call (said_of call (row_in store.rows dir part name) store.node.next);
+    rows = rows_after store.rows dir part name call (said_of call (row_in store.rows dir part name) store.node.next);
+  }
+
   carried_on : (client seq : ℕ) (call : Call) (asked : Asked) → carried_at (store_on terms store) client seq call asked ≡ store_on terms (carried_at store client seq call asked)
   carried_on client seq call (ChangeOf dir name) =
-      ap (λ (n : NodeV). record { node = n; rows = rows_after store.rows dir 0 name call (said_in store call dir name) }) (noted_on store.node terms store.rows dir 0 name client seq call (said_in store call dir name))
+      let part = part_for store.node dir name in
+      ap (carried_by client seq call dir name) (located_on store.node terms dir name)
+      ∙ ap (λ (n : NodeV). record { node = n; rows = rows_after store.rows dir part name call (said_in store call dir name) }) (noted_on store.node terms store.rows dir part name client seq call (said_in store call dir name))
   carried_on client seq call (LookOf dir name) = refl
   carried_on client seq call NotServed = refl
 
   part_on : (asked : Asked) → part_at (store_on terms store) asked ≡ part_at store asked
-  part_on (ChangeOf dir name) = refl
+  part_on (ChangeOf dir name) = located_on store.node terms dir name
   part_on (LookOf dir name) = refl
   part_on NotServed = refl
 
@@ -44,14 +57,16 @@ module _ (store : NodeAndRows) (terms : Setup) where
   served_on client seq part call said false = refl
 
   module _ (share : SharesHead store.node.setup terms) where
-    owns_on : (dir : ℕ) → owns (node_on terms store.node) dir 0 ≡ owns store.node dir 0
-    owns_on dir = ap (λ servers. server_for servers dir 0 == store.node.server) share.servers
+    owns_on : (dir part : ℕ) → owns (node_on terms store.node) dir part ≡ owns store.node dir part
+    owns_on dir part = ap (λ servers. server_for servers dir part == store.node.server) share.servers
 
     carries_on : (ask : Ask) (said : Final) (asked : Asked) → carries (outcome_of (store_on terms store) ask 0 asked) said ≡ carries (outcome_of store ask 0 asked) said
     carries_on ask said (ChangeOf dir name) =
-        ap (λ b. carries (cond b (by_judged (judge_kept (session_in (node_on terms store.node) dir 0 ask.client) ask.seq) (said_in store ask.call dir name)) Silent) said) (owns_on dir)
-        ∙ ap (λ kept. carries (cond (owns store.node dir 0) (by_judged (judge_kept kept ask.seq) (said_in store ask.call dir name)) Silent) said) (session_on store.node terms dir 0 ask.client)
-    carries_on ask said (LookOf dir name) = look_carries (owns (node_on terms store.node) dir 0) _ said ∙ sym (look_carries (owns store.node dir 0) _ said)
+        let part = part_for store.node dir name in
+        ap (λ p. carries (cond (owns (node_on terms store.node) dir p) (by_judged (judge_kept (session_in (node_on terms store.node) dir p ask.client) ask.seq) (said_of ask.call (row_in store.rows dir p name) store.node.next)) Silent) said) (located_on store.node terms dir name)
+        ∙ ap (λ b. carries (cond b (by_judged (judge_kept (session_in (node_on terms store.node) dir part ask.client) ask.seq) (said_in store ask.call dir name)) Silent) said) (owns_on dir part)
+        ∙ ap (λ kept. carries (cond (owns store.node dir part) (by_judged (judge_kept kept ask.seq) (said_in store ask.call dir name)) Silent) said) (session_on store.node terms dir part ask.client)
+    carries_on ask said (LookOf dir name) = look_carries (owns (node_on terms store.node) dir (part_for (node_on terms store.node) dir name)) _ said ∙ sym (look_carries (owns store.node dir (part_for store.node dir name)) _ said)
     carries_on ask said NotServed = refl
 
     follows_on : (client seq part : ℕ) (call : Call) (said : Final) → may_follow (store_on terms store) (Served client seq part call said) ≡ may_follow store (Served client seq part call said)

@@ -1,73 +1,84 @@
 -- A node's partitions as they are kept: as the entries of an ordered map.
-use Rattle.std.proofs.Common.{◌≡◌, ◌∙◌, sym, ap, subst, refl, ℕ, List, Option, Some, None, unwrap_or, cond, IsSome, Result, Ok, Err, OnOk, OnErr}
-use Rattle.std.specs.Ordering.{nat_cmp}
+use Rattle.std.proofs.Common.{◌≡◌, ◌∙◌, sym, ap, subst, refl, ℕ, ◌≤◌, List, length, Option, Some, None, unwrap_or, cond, IsSome, Result, Ok, Err, OnOk, OnErr, inl, inr}
 use Rattle.std.specs.Map.{lookup}
 use Rattle.std.specs.BTreeMap.{is_at}
 use Rattle.std.specs.FinMap as map
-use Rattle.mds_base.specs.declared.attr.Attr.{Attr}
-use Rattle.mds_base.specs.declared.reply.Final.{Final}
-use Rattle.mds_base.proofs.Maps.{get_entries, one_put}
-use Rattle.sessions.specs.declared.kept.Kept.{Kept}
+use Rattle.mds_base.proofs.Maps.{get_entries, one_put, one_taken, insert_apart, remove_apart}
+use Rattle.mds_base.specs.declared.session.Session.{Session}
 use Rattle.sessions.specs.declared.kept.Judged.TheVariants.{New}
-use Rattle.sessions.specs.Kept.{judge_kept}
-use Rattle.node_core.specs.declared.part.Part.{Part}
-use Rattle.mds_base.specs.declared.edit.Edit.{Edit}
-use Rattle.node_core.specs.Nodes.{NodeV, PartKey, part_cmp, new_part, session_in}
-use Rattle.node_core.specs.Edits.{part_noted, parts_noted}
-use Rattle.node_core.proofs.Views.{parts_total, exact_parts, insert_own}
+use Rattle.sessions.specs.Kept.{judged, judge_kept}
+use Rattle.partition.specs.declared.partition.Partition.{Partition}
+use Rattle.mds_base.specs.RowKeys.{RowMap}
+use Rattle.partition.specs.declared.edits.RowEdit.{RowEdit}
+use Rattle.partition.specs.Serving.{empty_part, part_noted, IsInPart}
+use Rattle.partition.proofs.Laws.{first_none}
+use Rattle.node_core.specs.Nodes.{NodeV, PartKey, PartMap, part_cmp, part_in, session_in}
+use Rattle.node_core.specs.Edits.{parts_noted}
+use Rattle.node_core.proofs.Keys.{same_or_apart}
+use Rattle.node_core.proofs.Views.{parts_total, exact_parts, insert_here, remove_here, insert_own}
 
 abbrev pub PartEntries : Type 0
-PartEntries = List (PartKey × Part)
+PartEntries = List (PartKey × Partition)
 
-pub parts_of : PartEntries → map.FinMap part_cmp Part
-parts_of es = map.from_entries es
-
--- what a look-up of the entries finds is what a partition keeps
-pub session_found : (es : PartEntries) (node : NodeV) (dir client : ℕ) (o : Option Part) → map.from_entries {R = part_cmp} es ≡ node.parts → o ≡ lookup (is_at (part_cmp (dir, 0))) es
-    → session_in node dir 0 client ≡ map.get (unwrap_or o new_part).sessions client
-unfolding session_in
-session_found es node dir client o is found =
-    ap (λ p. map.get (unwrap_or p new_part).sessions client) (ap (λ (m : map.FinMap part_cmp Part). map.get m (dir, 0)) (sym is) ∙ get_entries parts_total exact_parts es (dir, 0) ∙ sym found)
-
-pub session_absent : (es : PartEntries) (node : NodeV) (dir client : ℕ) → map.from_entries {R = part_cmp} es ≡ node.parts → None ≡ lookup (is_at (part_cmp (dir, 0))) es → session_in node dir 0 client ≡ None
-session_absent es node dir client is found = session_found es node dir client None is found ∙ map.get-empty nat_cmp client
-
--- a partition that is put where one was, or where none was
-pub part_put : (es fs : PartEntries) (key : PartKey) (o : Option Part) (v : Part) → o ≡ lookup (is_at (part_cmp key)) es
-    → ((q : PartKey) → lookup (is_at (part_cmp q)) fs ≡ cond (is_at (part_cmp key) q) (Some v) (lookup (is_at (part_cmp q)) es))
-    → (map.from_entries {R = part_cmp} fs ≡ map.insert (map.from_entries es) key v) × (map.get (map.from_entries {R = part_cmp} es) key ≡ o)
-part_put es fs key o v found puts = (one_put parts_total exact_parts es fs key v puts, get_entries parts_total exact_parts es key ∙ sym found)
-
-abbrev pub KeptOf : map.FinMap part_cmp Part → PartKey → ℕ → Option Kept
-KeptOf parts key client = map.get (unwrap_or (map.get parts key) new_part).sessions client
+-- what a look-up of the entries finds is the partition
+pub part_found : (es : PartEntries) (node : NodeV) (dir part : ℕ) (o : Option Partition) → map.from_entries {R = part_cmp} es ≡ node.parts → o ≡ lookup (is_at (part_cmp (dir, part))) es
+    → unwrap_or o (empty_part node.floor) ≡ part_in node dir part
+part_found es node dir part o is found =
+    ap (λ p. unwrap_or p (empty_part node.floor)) (found ∙ sym (get_entries parts_total exact_parts es (dir, part)) ∙ ap (λ (m : PartMap). map.get m (dir, part)) is)
 
 -- a partition that is there is written through what was lent
-module _ (es : PartEntries) (key : PartKey) (part : Part) (found : Some part ≡ lookup (is_at (part_cmp key)) es) where
-  pub is_there : map.get (map.from_entries {R = part_cmp} es) key ≡ Some part
+module _ (es : PartEntries) (key : PartKey) (part : Partition) (found : Some part ≡ lookup (is_at (part_cmp key)) es) where
+  is_there : map.get (map.from_entries {R = part_cmp} es) key ≡ Some part
   is_there = get_entries parts_total exact_parts es key ∙ sym found
 
-  pub part_written : (fs : PartEntries) (new : Part) → (IsSome (lookup (is_at (part_cmp key)) es) → (q : PartKey) → lookup (is_at (part_cmp q)) fs ≡ cond (is_at (part_cmp key) q) (Some new) (lookup (is_at (part_cmp q)) es))
+  part_written : (fs : PartEntries) (new : Partition) → (IsSome (lookup (is_at (part_cmp key)) es) → (q : PartKey) → lookup (is_at (part_cmp q)) fs ≡ cond (is_at (part_cmp key) q) (Some new) (lookup (is_at (part_cmp q)) es))
       → map.from_entries {R = part_cmp} fs ≡ map.insert (map.from_entries es) key new
   part_written fs new puts = one_put parts_total exact_parts es fs key new (puts (subst IsSome found refl))
 
-  pub part_unchanged : (fs : PartEntries) (new : Part) → new ≡ part → (IsSome (lookup (is_at (part_cmp key)) es) → (q : PartKey) → lookup (is_at (part_cmp q)) fs ≡ cond (is_at (part_cmp key) q) (Some new) (lookup (is_at (part_cmp q)) es))
+  pub part_unchanged : (fs : PartEntries) (new : Partition) → new ≡ part → (IsSome (lookup (is_at (part_cmp key)) es) → (q : PartKey) → lookup (is_at (part_cmp q)) fs ≡ cond (is_at (part_cmp key) q) (Some new) (lookup (is_at (part_cmp q)) es))
       → map.from_entries {R = part_cmp} fs ≡ map.from_entries {R = part_cmp} es
   part_unchanged fs new same puts = part_written fs new puts ∙ ap (map.insert (map.from_entries es) key) same ∙ insert_own parts_total exact_parts (map.from_entries es) key part is_there
 
-  pub part_noted_there : (fs : PartEntries) (client seq : ℕ) (said : Final) (edit : Edit) (before : Option Attr) (new : Part) → new ≡ part_noted part client seq said edit before
+  pub noted_there : (fs : PartEntries) (floor : ℕ) (session : Session) (count : ℕ) (new : Partition) → new ≡ part_noted part session count
       → (IsSome (lookup (is_at (part_cmp key)) es) → (q : PartKey) → lookup (is_at (part_cmp q)) fs ≡ cond (is_at (part_cmp key) q) (Some new) (lookup (is_at (part_cmp q)) es))
-      → map.from_entries {R = part_cmp} fs ≡ parts_noted (map.from_entries es) key client seq said edit before
-  part_noted_there fs client seq said edit before new same puts =
+      → map.from_entries {R = part_cmp} fs ≡ parts_noted (map.from_entries es) floor key session count
+  noted_there fs floor session count new same puts =
       part_written fs new puts
-      ∙ ap (map.insert (map.from_entries es) key) (same ∙ ap (λ o. part_noted (unwrap_or o new_part) client seq said edit before) (sym is_there))
+      ∙ ap (map.insert (map.from_entries es) key) (same ∙ ap (λ o. part_noted (unwrap_or o (empty_part floor)) session count) (sym is_there))
 
--- a partition that is not there is put
-pub part_noted_new : (es fs : PartEntries) (key : PartKey) (client seq : ℕ) (said : Final) (edit : Edit) (before : Option Attr) (new : Part) → None ≡ lookup (is_at (part_cmp key)) es → new ≡ part_noted new_part client seq said edit before
-    → ((q : PartKey) → lookup (is_at (part_cmp q)) fs ≡ cond (is_at (part_cmp key) q) (Some new) (lookup (is_at (part_cmp q)) es))
-    → map.from_entries {R = part_cmp} fs ≡ parts_noted (map.from_entries es) key client seq said edit before
-part_noted_new es fs key client seq said edit before new none same puts =
-    one_put parts_total exact_parts es fs key new puts
-    ∙ ap (map.insert (map.from_entries es) key) (same ∙ ap (λ o. part_noted (unwrap_or o new_part) client seq said edit before) (none ∙ sym (get_entries parts_total exact_parts es key)))
+  -- what is new in the map is new in the partition that was found
+  pub new_there : (floor client seq : ℕ) → judged (unwrap_or (map.get (map.from_entries {R = part_cmp} es) key) (empty_part floor)).sessions client seq ≡ New → judged part.sessions client seq ≡ New
+  new_there floor client seq new = subst (λ o. judged (unwrap_or o (empty_part floor)).sessions client seq ≡ New) is_there new
+
+-- a partition that is not there is put, and taken away again
+module _ (es : PartEntries) (key : PartKey) (none : None ≡ lookup (is_at (part_cmp key)) es) where
+  is_absent : map.get (map.from_entries {R = part_cmp} es) key ≡ None
+  is_absent = get_entries parts_total exact_parts es key ∙ sym none
+
+  pub noted_new : (fs : PartEntries) (floor : ℕ) (session : Session) (count : ℕ) (new : Partition) → new ≡ part_noted (empty_part floor) session count
+      → ((q : PartKey) → lookup (is_at (part_cmp q)) fs ≡ cond (is_at (part_cmp key) q) (Some new) (lookup (is_at (part_cmp q)) es))
+      → map.from_entries {R = part_cmp} fs ≡ parts_noted (map.from_entries es) floor key session count
+  noted_new fs floor session count new same puts =
+      one_put parts_total exact_parts es fs key new puts
+      ∙ ap (map.insert (map.from_entries es) key) (same ∙ ap (λ o. part_noted (unwrap_or o (empty_part floor)) session count) (sym is_absent))
+
+  put_back : (m : PartMap) (new : Partition) → map.get m key ≡ None → map.remove (map.insert m key new) key ≡ m
+  put_back m new is = map.same_map parts_total exact_parts _ _ (λ q. elim (same_or_apart parts_total exact_parts q key) [
+    | inl e ↦ ap (map.get (map.remove (map.insert m key new) key)) e ∙ remove_here parts_total (map.insert m key new) key ∙ sym is ∙ ap (map.get m) (sym e)
+    | inr e ↦ remove_apart parts_total exact_parts (map.insert m key new) key q e ∙ insert_apart parts_total exact_parts m key new q e
+  ])
+
+  pub taken_back : (fs gs : PartEntries) (new : Partition)
+      → ((q : PartKey) → lookup (is_at (part_cmp q)) fs ≡ cond (is_at (part_cmp key) q) (Some new) (lookup (is_at (part_cmp q)) es))
+      → ((q : PartKey) → lookup (is_at (part_cmp q)) gs ≡ cond (is_at (part_cmp key) q) None (lookup (is_at (part_cmp q)) fs))
+      → map.from_entries {R = part_cmp} gs ≡ map.from_entries {R = part_cmp} es
+  taken_back fs gs new puts takes =
+      one_taken parts_total exact_parts fs gs key takes
+      ∙ ap (λ (m : PartMap). map.remove m key) (one_put parts_total exact_parts es fs key new puts)
+      ∙ put_back (map.from_entries es) new is_absent
+
+  pub new_absent : (floor client seq : ℕ) → judged (unwrap_or (map.get (map.from_entries {R = part_cmp} es) key) (empty_part floor)).sessions client seq ≡ New → judged (empty_part floor).sessions client seq ≡ New
+  new_absent floor client seq new = subst (λ o. judged (unwrap_or o (empty_part floor)).sessions client seq ≡ New) is_absent new
 
 pub on_ok : {T E : Type 0} (r : Result T E) (P Q : Type 0) → (P → Q) → OnOk r P → OnOk r Q
 on_ok (Ok x) P Q f h = f h
@@ -77,18 +88,14 @@ pub on_err : {T E : Type 0} (r : Result T E) (P Q : Type 0) → (P → Q) → On
 on_err (Ok x) P Q f h = tt
 on_err (Err e) P Q f h = f h
 
--- a change that is judged new in the map is new in the partition that was found, or in a new one
-abbrev pub IsNewIn : map.FinMap part_cmp Part → PartKey → ℕ → ℕ → Type 0
-IsNewIn parts key client seq = judge_kept (map.get (unwrap_or (map.get parts key) new_part).sessions client) seq ≡ New
-
-pub new_there : (es : PartEntries) (key : PartKey) (part : Part) (client seq : ℕ) → Some part ≡ lookup (is_at (part_cmp key)) es → IsNewIn (map.from_entries es) key client seq → judge_kept (map.get part.sessions client) seq ≡ New
-new_there es key part client seq found new = subst (λ o. judge_kept (map.get (unwrap_or o new_part).sessions client) seq ≡ New) (is_there es key part found) new
-
-pub new_absent : (es : PartEntries) (key : PartKey) (part : Part) (client seq : ℕ) → part ≡ new_part → None ≡ lookup (is_at (part_cmp key)) es → IsNewIn (map.from_entries es) key client seq → judge_kept (map.get part.sessions client) seq ≡ New
-new_absent es key part client seq is none new =
-    ap (λ (p : Part). judge_kept (map.get p.sessions client) seq) is
-    ∙ subst (λ o. judge_kept (map.get (unwrap_or o new_part).sessions client) seq ≡ New) (get_entries parts_total exact_parts es key ∙ sym none) new
-
-pub new_in : (es : PartEntries) (node : NodeV) (dir client seq : ℕ) → map.from_entries {R = part_cmp} es ≡ node.parts → judge_kept (session_in node dir 0 client) seq ≡ New → IsNewIn (map.from_entries es) (dir, 0) client seq
+-- a change that is new to its client's session is new in the map
+pub new_in : (node : NodeV) (parts : PartMap) (floor dir part client seq : ℕ) → parts ≡ node.parts → floor ≡ node.floor → judge_kept (session_in node dir part client) seq ≡ New
+    → judged (unwrap_or (map.get parts (dir, part)) (empty_part floor)).sessions client seq ≡ New
 unfolding session_in
-new_in es node dir client seq is new = subst (λ m. IsNewIn m (dir, 0) client seq) (sym is) new
+new_in node parts floor dir part client seq same low new =
+    ap (λ (m : PartMap). judged (unwrap_or (map.get m (dir, part)) (empty_part floor)).sessions client seq) same
+    ∙ ap (λ f. judged (unwrap_or (map.get node.parts (dir, part)) (empty_part f)).sessions client seq) low ∙ new
+
+-- of one edit at most none is made in part
+pub none_in_part : (rows left : RowMap) (edits : List RowEdit) → length edits ≤ 1 → IsInPart rows edits left → left ≡ rows
+none_in_part rows left edits few made = first_none rows left edits made.made few made.few made.rows'

@@ -6,7 +6,7 @@ use Rattle.mds_base.specs.declared.reply.Final.{Final}
 use Rattle.mds_base.specs.declared.reply.Reply.{Reply}
 use Rattle.records.specs.declared.msg.Msg.{Msg}
 use Rattle.sessions.specs.Kept.{judge_kept}
-use Rattle.node_core.specs.Nodes.{NodeAndRows, owns, has_numbers, session_in}
+use Rattle.node_core.specs.Nodes.{NodeAndRows, part_for, owns, has_numbers, session_in}
 use Rattle.node_core.specs.Rules.{Asked, ChangeOf, LookOf, NotServed, asked_of, said_in, Outcome, Silent, Looks, Repeats, Carries, outcome_of, outcome, request_in}
 use Rattle.node_core.specs.Serving.{serve, serve_request, served_as, carries, carried_at, part_at, replayed_all, may_carry}
 use Rattle.mds_base.proofs.Finals.{same_final_self}
@@ -20,11 +20,12 @@ no_look false reply said e = cc
 carried_again : (store : NodeAndRows) (ask : Ask) (now : ℕ) (said : Final) (a : Asked) → asked_of ask.call ≡ a → outcome_of store ask now a ≡ Carries said → has_numbers store.node ≡ true
     → replayed_all store (served_as store ask (Carries said)).records ≡ (served_as store ask (Carries said)).store
 carried_again store ask now said (ChangeOf dir name) asked is numbers =
-    let o = owned_of (owns store.node dir 0) (judge_kept (session_in store.node dir 0 ask.client) ask.seq) (said_in store ask.call dir name) said (ap (λ x. carries x said) is ∙ same_final_self said) in
-    let zero : (part_at store (asked_of ask.call) == 0) ≡ true = eq-eqb (part_at store (asked_of ask.call)) 0 (ap (part_at store) asked) in
-    let may : may_carry store.node dir ask.client ask.seq (part_at store (asked_of ask.call)) ≡ true = and_from _ _ (and_from _ _ zero (and_from _ _ numbers o.0)) o.1 in
+    let own = part_for store.node dir name in
+    let o = owned_of (owns store.node dir own) (judge_kept (session_in store.node dir own ask.client) ask.seq) (said_in store ask.call dir name) said (ap (λ x. carries x said) is ∙ same_final_self said) in
+    let placed : (part_at store (asked_of ask.call) == own) ≡ true = eq-eqb (part_at store (asked_of ask.call)) own (ap (part_at store) asked) in
+    let may : may_carry store.node dir name ask.client ask.seq (part_at store (asked_of ask.call)) ≡ true = and_from _ _ (and_from _ _ placed (and_from _ _ numbers o.0)) o.1 in
     (follows_so store ask.client ask.seq (part_at store (asked_of ask.call)) ask.call said dir name asked may o.2).1 ∙ sym (ap (carried_at store ask.client ask.seq ask.call) asked)
-carried_again store ask now said (LookOf dir name) asked is numbers = absurd (no_look (owns store.node dir 0) _ said is)
+carried_again store ask now said (LookOf dir name) asked is numbers = absurd (no_look (owns store.node dir (part_for store.node dir name)) _ said is)
 carried_again store ask now said NotServed asked is numbers = cc
 
 served_again : (store : NodeAndRows) (ask : Ask) (now : ℕ) (o : Outcome) → outcome store ask now ≡ o → has_numbers store.node ≡ true → replayed_all store (served_as store ask o).records ≡ (served_as store ask o).store

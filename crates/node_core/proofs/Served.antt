@@ -1,61 +1,62 @@
 -- What serving a request comes to, by what was decided on the way.
-use Rattle.std.proofs.Common.{◌≡◌, ◌∙◌, sym, ap, refl, ℕ, ◌+◌, Bool, true, false, cond, List, [], ◌∷◌, length, Option, Some, None, ◌==◌}
-use Rattle.std.specs.FinMap as map
+use Rattle.std.proofs.Common.{◌≡◌, ◌∙◌, sym, ap, refl, ℕ, ◌+◌, ◌≤◌, Bool, true, false, cond, List, [], ◌∷◌, length, Option, Some, None, ◌==◌, arith}
 use Rattle.mds_base.specs.declared.attr.Attr.{Attr}
 use Rattle.mds_base.specs.declared.attr.Stamp.{Stamp}
 use Rattle.mds_base.specs.declared.ask.Ask.{Ask}
 use Rattle.mds_base.specs.declared.call.Call.{Call}
 use Rattle.mds_base.specs.declared.call.Call.TheVariants.{Create, Mkdir, Remove, Setattr}
+use Rattle.mds_base.specs.declared.edit.Edit.{Edit}
+use Rattle.mds_base.specs.declared.edit.Edit.TheVariants.{Keep, Put, Take}
 use Rattle.mds_base.specs.declared.reply.Final.{Final}
 use Rattle.mds_base.specs.declared.reply.Final.TheVariants.{Removed, IsDir}
 use Rattle.mds_base.specs.declared.reply.Reply.TheVariants.{Said}
-use Rattle.mds_base.specs.Entries as entries
+use Rattle.mds_base.specs.declared.row_key.RowKey.{RowKey}
 use Rattle.mds_base.specs.PlainRules as plain
-use Rattle.mds_base.specs.RowKeys.{RowMap, edited_rows, edited_count}
+use Rattle.mds_base.specs.RowKeys.{RowMap, edited_rows}
 use Rattle.records.specs.declared.record.Record.TheVariants.{Served}
 use Rattle.sessions.specs.declared.kept.Judged.{Judged}
 use Rattle.sessions.specs.declared.kept.Judged.TheVariants.{New}
 use Rattle.sessions.specs.Kept.{judge_kept}
-use Rattle.sessions.specs.Kept as sessions
-use Rattle.mds_base.specs.declared.edit.Edit.{Edit}
-use Rattle.node_core.specs.Nodes.{NodeV, NodeAndRows, owns, session_in, row_in, rows_after, noted_in, part_in}
+use Rattle.partition.specs.Rows.{written, edits_of}
+use Rattle.node_core.specs.declared.change.Change.{Change}
+use Rattle.node_core.specs.Nodes.{NodeAndRows, part_for, owns, session_in, row_in, rows_after, noted_in, edit_in, count_after}
 use Rattle.name_hash.specs.RowPlace.{row_key}
 use Rattle.node_core.specs.Rules.{ChangeOf, LookOf, NotServed, asked_of, said_of, said_in, found, Silent, Looks, by_judged, outcome_of}
 use Rattle.node_core.specs.Serving.{ServedV, served_as, serve_ask, answer_to, carried, carried_at, part_at}
-use Rattle.node_core.specs.Edits.{node_noted, numbers_of}
+use Rattle.node_core.specs.Edits.{node_noted, parts_noted, numbers_of, CanBeMade}
 use Rattle.node_core.proofs.Calls.{each_change}
 
 abbrev nothing : NodeAndRows → ServedV
 nothing store = record { store = store; records = []; outputs = [] }
 
 module _ (store : NodeAndRows) (ask : Ask) (now dir : ℕ) (name : List ℕ) where
-  pub change_away : asked_of ask.call ≡ ChangeOf dir name → owns store.node dir 0 ≡ false → serve_ask store ask now ≡ nothing store
+  pub change_away : asked_of ask.call ≡ ChangeOf dir name → owns store.node dir (part_for store.node dir name) ≡ false → serve_ask store ask now ≡ nothing store
   change_away asked away =
       ap (λ a. served_as store ask (outcome_of store ask now a)) asked
-      ∙ ap (λ b. served_as store ask (cond b (by_judged (judge_kept (session_in store.node dir 0 ask.client) ask.seq) (said_in store ask.call dir name)) Silent)) away
+      ∙ ap (λ b. served_as store ask (cond b (by_judged (judge_kept (session_in store.node dir (part_for store.node dir name) ask.client) ask.seq) (said_in store ask.call dir name)) Silent)) away
 
-  pub look_away : asked_of ask.call ≡ LookOf dir name → owns store.node dir 0 ≡ false → serve_ask store ask now ≡ nothing store
+  pub look_away : asked_of ask.call ≡ LookOf dir name → owns store.node dir (part_for store.node dir name) ≡ false → serve_ask store ask now ≡ nothing store
   look_away asked away =
       ap (λ a. served_as store ask (outcome_of store ask now a)) asked
-      ∙ ap (λ b. served_as store ask (cond b (Looks (found (row_in store.rows dir 0 name) (now + store.node.setup.lease))) Silent)) away
+      ∙ ap (λ b. served_as store ask (cond b (Looks (found (row_in store.rows dir (part_for store.node dir name) name) (now + store.node.setup.lease))) Silent)) away
 
-  pub look_own : asked_of ask.call ≡ LookOf dir name → owns store.node dir 0 ≡ true
-      → serve_ask store ask now ≡ record { store = store; records = []; outputs = answer_to ask (found (row_in store.rows dir 0 name) (now + store.node.setup.lease)) ∷ [] }
+  pub look_own : asked_of ask.call ≡ LookOf dir name → owns store.node dir (part_for store.node dir name) ≡ true
+      → serve_ask store ask now ≡ record { store = store; records = []; outputs = answer_to ask (found (row_in store.rows dir (part_for store.node dir name) name) (now + store.node.setup.lease)) ∷ [] }
   look_own asked own =
       ap (λ a. served_as store ask (outcome_of store ask now a)) asked
-      ∙ ap (λ b. served_as store ask (cond b (Looks (found (row_in store.rows dir 0 name) (now + store.node.setup.lease))) Silent)) own
+      ∙ ap (λ b. served_as store ask (cond b (Looks (found (row_in store.rows dir (part_for store.node dir name) name) (now + store.node.setup.lease))) Silent)) own
 
-  pub change_judged : asked_of ask.call ≡ ChangeOf dir name → owns store.node dir 0 ≡ true → (j : Judged) → judge_kept (session_in store.node dir 0 ask.client) ask.seq ≡ j
+  pub change_judged : asked_of ask.call ≡ ChangeOf dir name → owns store.node dir (part_for store.node dir name) ≡ true → (j : Judged) → judge_kept (session_in store.node dir (part_for store.node dir name) ask.client) ask.seq ≡ j
       → serve_ask store ask now ≡ served_as store ask (by_judged j (said_in store ask.call dir name))
   change_judged asked own j judged =
       ap (λ a. served_as store ask (outcome_of store ask now a)) asked
-      ∙ ap (λ b. served_as store ask (cond b (by_judged (judge_kept (session_in store.node dir 0 ask.client) ask.seq) (said_in store ask.call dir name)) Silent)) own
+      ∙ ap (λ b. served_as store ask (cond b (by_judged (judge_kept (session_in store.node dir (part_for store.node dir name) ask.client) ask.seq) (said_in store ask.call dir name)) Silent)) own
       ∙ ap (λ x. served_as store ask (by_judged x (said_in store ask.call dir name))) judged
 
-  pub change_new : asked_of ask.call ≡ ChangeOf dir name → owns store.node dir 0 ≡ true → judge_kept (session_in store.node dir 0 ask.client) ask.seq ≡ New
+  pub change_new : asked_of ask.call ≡ ChangeOf dir name → owns store.node dir (part_for store.node dir name) ≡ true → judge_kept (session_in store.node dir (part_for store.node dir name) ask.client) ask.seq ≡ New
       → serve_ask store ask now ≡ record {
         store = carried store ask.client ask.seq ask.call dir name;
-        records = Served ask.client ask.seq 0 ask.call (said_in store ask.call dir name) ∷ [];
+        records = Served ask.client ask.seq (part_for store.node dir name) ask.call (said_in store ask.call dir name) ∷ [];
         outputs = answer_to ask (Said (said_in store ask.call dir name)) ∷ [];
       }
   change_new asked own judged =
@@ -98,28 +99,42 @@ given_numbers call before fresh dir name e =
     (λ d n. created_numbers d n before fresh) (λ d n. made_numbers d n before fresh) (λ d n. taken_numbers d n before fresh) (λ d n mode size stamp. set_numbers d n mode size stamp before fresh)
     call dir name e
 
--- what the code noted is what the specification notes
-noted_parts : (node : NodeV) (dir client seq next next' : ℕ) (said said' : Final) (edit edit' : Edit) (before before' : Option Attr) → next ≡ next' → said ≡ said' → edit ≡ edit' → before ≡ before'
-    → ◌≡◌ {A = NodeV}
-    (record { server = node.server; setup = node.setup; next = next; parts = map.insert node.parts (dir, 0) (record { count = edited_count (part_in node dir 0).count edit before; sessions = sessions.noted (part_in node dir 0).sessions client seq said }) })
-    (record { server = node.server; setup = node.setup; next = next'; parts = map.insert node.parts (dir, 0) (record { count = edited_count (part_in node dir 0).count edit' before'; sessions = sessions.noted (part_in node dir 0).sessions client seq said' }) })
-noted_parts node dir client seq next next' said said' edit edit' before before' n f e b =
-    λ i. record { server = node.server; setup = node.setup; next = n i; parts = map.insert node.parts (dir, 0) (record { count = edited_count (part_in node dir 0).count (e i) (b i); sessions = sessions.noted (part_in node dir 0).sessions client seq (f i) }) }
+-- ---- the change that is carried out
 
-pub noted_so : (node : NodeV) (rows : RowMap) (dir : ℕ) (name : List ℕ) (client seq : ℕ) (call : Call) (said : Final) (edit : Edit) (before : Option Attr)
-    → before ≡ row_in rows dir 0 name → asked_of call ≡ ChangeOf dir name → said ≡ said_of call before node.next → edit ≡ plain.edit_of call (Said said) before
-    → node_noted node dir client seq said edit before ≡ noted_in node rows dir 0 name client seq call (said_in (record { node = node; rows = rows }) call dir name)
-unfolding noted_in
-noted_so node rows dir name client seq call said edit before at asked said' edit' =
-    let own : said ≡ said_in (record { node = node; rows = rows }) call dir name = said' ∙ ap (λ o. said_of call o node.next) at in
-    let numbers : numbers_of said ≡ length (plain.given_by call (Said said)) = ap numbers_of said' ∙ given_numbers call before node.next dir name asked ∙ ap (λ f. length (plain.given_by call (Said f))) (sym said') in
-    let next : node.next + numbers_of said ≡ node.next + length (plain.given_by call (Said (said_in (record { node = node; rows = rows }) call dir name))) =
-    ap (λ n. node.next + n) (numbers ∙ ap (λ f. length (plain.given_by call (Said f))) own) in
-    let e : edit ≡ plain.edit_of call (Said (said_in (record { node = node; rows = rows }) call dir name)) (row_in rows dir 0 name) =
-    edit' ∙ ap (λ o. plain.edit_of call (Said said) o) at ∙ ap (λ f. plain.edit_of call (Said f) (row_in rows dir 0 name)) own in
-    noted_parts node dir client seq _ _ said (said_in (record { node = node; rows = rows }) call dir name) _ _ before (row_in rows dir 0 name) next own e at
+abbrev pub carried_change : NodeAndRows → ℕ → List ℕ → ℕ → ℕ → Call → Change
+carried_change store dir name client seq call = record {
+  dir = dir;
+  part = part_for store.node dir name;
+  edits = edits_of (row_key dir (part_for store.node dir name) name) (edit_in store.rows dir (part_for store.node dir name) name call (said_in store call dir name));
+  session = record { client = client; seq = seq; said = said_in store call dir name };
+  count = count_after store.node store.rows dir (part_for store.node dir name) name call (said_in store call dir name);
+}
 
-pub rows_so : (rows new : RowMap) (dir : ℕ) (name : List ℕ) (call : Call) (said : Final) (edit : Edit) (before : Option Attr) → before ≡ row_in rows dir 0 name → edit ≡ plain.edit_of call (Said said) before
-    → new ≡ edited_rows rows (row_key dir 0 name) edit → new ≡ rows_after rows dir 0 name call said
-unfolding rows_after
-rows_so rows new dir name call said edit before at edit' is = is ∙ ap (edited_rows rows (row_key dir 0 name)) (edit' ∙ ap (plain.edit_of call (Said said)) at)
+edits_made : (rows : RowMap) (key : RowKey) (edit : Edit) → written rows (edits_of key edit) ≡ edited_rows rows key edit
+edits_made rows key Keep = refl
+edits_made rows key (Put attr) = refl
+edits_made rows key Take = refl
+
+one_edit : (key : RowKey) (edit : Edit) → length (edits_of key edit) ≤ 1
+one_edit key Keep = omega arith
+one_edit key (Put attr) = omega arith
+one_edit key Take = omega arith
+
+module _ (store : NodeAndRows) (dir : ℕ) (name : List ℕ) (client seq : ℕ) (call : Call) where
+  pub noted_so : asked_of call ≡ ChangeOf dir name → node_noted store.node (carried_change store dir name client seq call) ≡ (carried store client seq call dir name).node
+  unfolding noted_in
+  noted_so asked =
+      ap (λ n. record store.node {
+        next = store.node.next + n;
+        parts = parts_noted store.node.parts store.node.floor (dir, part_for store.node dir name) (carried_change store dir name client seq call).session (carried_change store dir name client seq call).count;
+      }) (given_numbers call (row_in store.rows dir (part_for store.node dir name) name) store.node.next dir name asked)
+
+  pub rows_so : written store.rows (carried_change store dir name client seq call).edits ≡ (carried store client seq call dir name).rows
+  unfolding rows_after
+  rows_so = edits_made store.rows (row_key dir (part_for store.node dir name) name) (edit_in store.rows dir (part_for store.node dir name) name call (said_in store call dir name))
+
+  pub can_be_made : judge_kept (session_in store.node dir (part_for store.node dir name) client) seq ≡ New → CanBeMade store.node (carried_change store dir name client seq call)
+  can_be_made new = record {
+    newer = new;
+    few = one_edit (row_key dir (part_for store.node dir name) name) (edit_in store.rows dir (part_for store.node dir name) name call (said_in store call dir name));
+  }

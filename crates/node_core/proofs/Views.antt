@@ -1,5 +1,5 @@
 -- What a partition keeps of a client, and the row of a name, once a change was carried out.
-use Rattle.std.proofs.Common.{◌≡◌, ◌∙◌, sym, ap, refl, ℕ, ◌+◌, length, List, Option, Some, None, cond, unwrap_or, subst, Bool, true, false, [], ◌∷◌, inl, inr}
+use Rattle.std.proofs.Common.{◌≡◌, ◌∙◌, sym, ap, refl, ℕ, ◌+◌, ◌<◌, length, List, Option, Some, None, cond, unwrap_or, Bool, true, false, [], ◌∷◌, inl, inr, lit<}
 use Rattle.std.specs.declared.cmp.Ordering.{Ordering}
 use Rattle.std.specs.Ordering.{nat_cmp, eq_by_cmp}
 use Rattle.std.specs.Cmp.{IsTotalOrder, nat_cmp_total, eq_by_cmp_equiv}
@@ -17,13 +17,15 @@ use Rattle.mds_base.specs.declared.edit.Edit.{Edit}
 use Rattle.mds_base.specs.declared.edit.Edit.TheVariants.{Keep, Put, Take}
 use Rattle.mds_base.specs.Entries.{Place, Entries, edited, edited_entry}
 use Rattle.mds_base.specs.PlainRules.{given_by}
-use Rattle.mds_base.specs.RowKeys.{RowMap, edited_rows, edited_count}
+use Rattle.mds_base.specs.RowKeys.{RowMap, edited_rows}
 use Rattle.mds_base.proofs.Maps.{insert_apart, remove_apart}
 use Rattle.mds_base.proofs.Places.{edited_here, places_total}
 use Rattle.mds_base.proofs.RowMaps.{row_keys_total, exact_row_keys}
-use Rattle.node_core.specs.declared.part.Part.{Part}
+use Rattle.partition.specs.declared.partition.Partition.{Partition}
+use Rattle.partition.specs.Serving.{empty_part, part_noted}
 use Rattle.node_core.proofs.Keys.{same_or_apart}
-use Rattle.node_core.specs.Nodes.{NodeV, PartKey, part_cmp, part_in, new_part, session_in, noted_in, row_in, rows_after, edit_in, cleared, cleared_part}
+use Rattle.node_core.specs.Nodes.{NodeV, PartKey, PartMap, part_cmp, part_in, part_for, session_in, noted_in, row_in, rows_after, edit_in, count_after, new_node, part_cleared, cleared, cleared_part, parts_cleared}
+use Rattle.mds_base.specs.declared.setup.Setup.{Setup}
 use Rattle.name_hash.specs.RowPlace.{row_key}
 
 pub parts_total : IsTotalOrder part_cmp
@@ -68,16 +70,14 @@ row_apart rows dir part name call said other_dir other_part other differ =
     (λ e. differ (ap (λ (k : RowKey). k.dir) e) (ap (λ (k : RowKey). k.part) e) (ap (λ (k : RowKey). k.name) e))
 
 -- the partition that was changed, and the others
-abbrev noted_part : NodeV → RowMap → ℕ → ℕ → List ℕ → ℕ → ℕ → Call → Final → Part
-noted_part node rows dir part name client seq call said = record {
-  count = edited_count (part_in node dir part).count (edit_in rows dir part name call said) (row_in rows dir part name);
-  sessions = map.insert (part_in node dir part).sessions client (record { seq = seq; said = said });
-}
+abbrev noted_part : NodeV → RowMap → ℕ → ℕ → List ℕ → ℕ → ℕ → Call → Final → Partition
+noted_part node rows dir part name client seq call said =
+    part_noted (part_in node dir part) (record { client = client; seq = seq; said = said }) (count_after node rows dir part name call said)
 
 part_here : (node : NodeV) (rows : RowMap) (dir part : ℕ) (name : List ℕ) (client seq : ℕ) (call : Call) (said : Final)
     → part_in (noted_in node rows dir part name client seq call said) dir part ≡ noted_part node rows dir part name client seq call said
 unfolding noted_in
-part_here node rows dir part name client seq call said = ap (λ o. unwrap_or o new_part) (insert_here parts_total node.parts (dir, part) (noted_part node rows dir part name client seq call said))
+part_here node rows dir part name client seq call said = ap (λ o. unwrap_or o (empty_part node.floor)) (insert_here parts_total node.parts (dir, part) (noted_part node rows dir part name client seq call said))
 
 part_apart : (node : NodeV) (rows : RowMap) (dir part : ℕ) (name : List ℕ) (client seq : ℕ) (call : Call) (said : Final) (other : PartKey)
     → (◌≡◌ {A = PartKey} other (dir, part) → ⊥)
@@ -89,7 +89,7 @@ pub session_here : (node : NodeV) (rows : RowMap) (dir part : ℕ) (name : List 
     → session_in (noted_in node rows dir part name client seq call said) dir part client ≡ Some (record { seq = seq; said = said })
 unfolding session_in
 session_here node rows dir part name client seq call said =
-    ap (λ (p : Part). map.get p.sessions client) (part_here node rows dir part name client seq call said)
+    ap (λ (p : Partition). map.get p.sessions client) (part_here node rows dir part name client seq call said)
     ∙ insert_here nat_cmp_total (part_in node dir part).sessions client (record { seq = seq; said = said })
 
 -- another client of the same partition
@@ -98,16 +98,16 @@ pub session_beside : (node : NodeV) (rows : RowMap) (dir part : ℕ) (name : Lis
     → session_in (noted_in node rows dir part name client seq call said) dir part other ≡ session_in node dir part other
 unfolding session_in
 session_beside node rows dir part name client seq call said other differ =
-    ap (λ (p : Part). map.get p.sessions other) (part_here node rows dir part name client seq call said)
+    ap (λ (p : Partition). map.get p.sessions other) (part_here node rows dir part name client seq call said)
     ∙ insert_apart nat_cmp_total exact_unsigned (part_in node dir part).sessions client (record { seq = seq; said = said }) other differ
 
 -- a client of another partition
 pub session_apart : (node : NodeV) (rows : RowMap) (dir part : ℕ) (name : List ℕ) (client seq : ℕ) (call : Call) (said : Final) (other_dir other_part other : ℕ)
     → (◌≡◌ {A = PartKey} (other_dir, other_part) (dir, part) → ⊥)
     → session_in (noted_in node rows dir part name client seq call said) other_dir other_part other ≡ session_in node other_dir other_part other
-unfolding session_in
+unfolding session_in noted_in
 session_apart node rows dir part name client seq call said other_dir other_part other differ =
-    ap (λ o. map.get (unwrap_or o new_part).sessions other) (part_apart node rows dir part name client seq call said (other_dir, other_part) differ)
+    ap (λ o. map.get (unwrap_or o (empty_part node.floor)).sessions other) (part_apart node rows dir part name client seq call said (other_dir, other_part) differ)
 
 pub noted_server : (node : NodeV) (rows : RowMap) (dir part : ℕ) (name : List ℕ) (client seq : ℕ) (call : Call) (said : Final) → (noted_in node rows dir part name client seq call said).server ≡ node.server
 unfolding noted_in
@@ -121,25 +121,60 @@ pub noted_next : (node : NodeV) (rows : RowMap) (dir part : ℕ) (name : List �
 unfolding noted_in
 noted_next node rows dir part name client seq call said = refl
 
--- a node without its sessions keeps nothing of any client
-abbrev HasNone : Option Part → Type 0
-HasNone None = Unit {0}
-HasNone (Some part) = part.sessions ≡ map.empty
+-- ---- a node without its sessions: it keeps nothing of any client, and has none to lose
 
-cleared_one : (b : Bool) (part : Part) (rest : Option Part) → HasNone rest → HasNone (cond b (Some (record { count = part.count; sessions = map.empty })) rest)
-cleared_one true part rest h = refl
-cleared_one false part rest h = h
+abbrev on_part : Option Partition → Option Partition
+on_part None = None
+on_part (Some part) = Some (part_cleared part)
 
-cleared_find : (es : List (PartKey × Part)) (q : PartKey) → HasNone (find part_cmp q (list_map cleared_part es))
-cleared_find [] q = tt
-cleared_find (e ∷ es) q = cleared_one (eq_by_cmp part_cmp q e.0) e.1 (find part_cmp q (list_map cleared_part es)) (cleared_find es q)
+find_one : (b : Bool) (part : Partition) (rest bare : Option Partition) → bare ≡ on_part rest → cond b (Some (part_cleared part)) bare ≡ on_part (cond b (Some part) rest)
+find_one true part rest bare e = refl
+find_one false part rest bare e = e
 
-none_of : (o : Option Part) (client : ℕ) → HasNone o → map.get (unwrap_or o new_part).sessions client ≡ None
-none_of None client h = map.get-empty nat_cmp client
-none_of (Some part) client h = ap (λ m. map.get m client) h ∙ map.get-empty nat_cmp client
+find_cleared : (es : List (PartKey × Partition)) (q : PartKey) → find part_cmp q (list_map cleared_part es) ≡ on_part (find part_cmp q es)
+find_cleared [] q = refl
+find_cleared (e ∷ es) q = find_one (eq_by_cmp part_cmp q e.0) e.1 (find part_cmp q es) (find part_cmp q (list_map cleared_part es)) (find_cleared es q)
+
+get_cleared : (parts : PartMap) (q : PartKey) → map.get (parts_cleared parts) q ≡ on_part (map.get parts q)
+get_cleared parts q =
+    map.get-from_entries parts_total (list_map cleared_part (map.entries parts)) q
+    ∙ find_cleared (map.entries parts) q ∙ ap on_part (sym (map.get-entries parts q))
+
+none_of : (o : Option Partition) (floor client : ℕ) → map.get (unwrap_or (on_part o) (empty_part floor)).sessions client ≡ None
+none_of None floor client = map.get-empty nat_cmp client
+none_of (Some part) floor client = map.get-empty nat_cmp client
 
 pub session_cleared : (node : NodeV) (dir part client : ℕ) → session_in (cleared node) dir part client ≡ None
 unfolding session_in
 session_cleared node dir part client =
-    none_of (map.get (cleared node).parts (dir, part)) client
-    (subst HasNone (sym (map.get-from_entries parts_total (list_map cleared_part (map.entries node.parts)) (dir, part))) (cleared_find (map.entries node.parts) (dir, part)))
+    ap (λ o. map.get (unwrap_or o (empty_part node.floor)).sessions client) (get_cleared node.parts (dir, part)) ∙ none_of (map.get node.parts (dir, part)) node.floor client
+
+on_part_twice : (o : Option Partition) → on_part (on_part o) ≡ on_part o
+on_part_twice None = refl
+on_part_twice (Some part) = refl
+
+parts_twice : (parts : PartMap) → parts_cleared (parts_cleared parts) ≡ parts_cleared parts
+parts_twice parts = map.same_map parts_total exact_parts (parts_cleared (parts_cleared parts)) (parts_cleared parts)
+    (λ q. get_cleared (parts_cleared parts) q ∙ ap on_part (get_cleared parts q) ∙ on_part_twice (map.get parts q) ∙ sym (get_cleared parts q))
+
+no_parts : parts_cleared map.empty ≡ map.empty
+no_parts = map.same_map parts_total exact_parts (parts_cleared map.empty) map.empty
+    (λ q. get_cleared map.empty q ∙ ap on_part (map.get-empty part_cmp q) ∙ sym (map.get-empty part_cmp q))
+
+-- cleared twice is cleared once, and a new node stays as it is
+pub cleared_twice : (node : NodeV) → cleared (cleared node) ≡ cleared node
+cleared_twice node = ap (λ (parts : PartMap). record node { parts = parts }) (parts_twice node.parts)
+
+pub cleared_new : (server : ℕ) (setup : Setup) → cleared (new_node server setup) ≡ new_node server setup
+cleared_new server setup = ap (λ (parts : PartMap). record (new_node server setup) { parts = parts }) no_parts
+
+-- a new node keeps nothing of any client either
+pub session_new : (server : ℕ) (setup : Setup) (dir part client : ℕ) → session_in (new_node server setup) dir part client ≡ None
+unfolding session_in
+session_new server setup dir part client =
+    ap (λ o. map.get (unwrap_or o (empty_part 0)).sessions client) (map.get-empty part_cmp (dir, part)) ∙ map.get-empty nat_cmp client
+
+-- a partition that is located is one of a directory's
+pub part_fits : (node : NodeV) (dir : ℕ) (name : List ℕ) → part_for node dir name < 1024
+unfolding part_for
+part_fits node dir name = lit< tt

@@ -3,6 +3,6 @@ pub mod Rules
 pub mod Serving
 pub mod Ranges
 pub mod Edits
-pub mod Undoing
 pub mod Planning
+pub mod Durable
 pub mod Terms

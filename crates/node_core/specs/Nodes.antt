@@ -1,5 +1,5 @@
--- What a server keeps, as a value: its next directory number, and of each of its partitions the count of its rows
--- and its sessions. The rows stand beside the node.
+-- What a server keeps, as a value: its next directory number, what it knows of the partitions of directories, and its
+-- own partitions. The rows stand beside the node.
 use Rattle.std.specs.Prelude.{ℕ, ◌+◌, ◌*◌, ◌-◌, ◌==◌, ◌&&◌, Bool, List, length, Option, Some, None, unwrap_or, nat_le}
 use Rattle.std.specs.declared.cmp.Ordering.{Ordering}
 use Rattle.std.specs.Ordering.{nat_cmp, ordering_then}
@@ -19,8 +19,9 @@ use Rattle.mds_base.specs.RowKeys.{RowMap, edited_rows, edited_count}
 use Rattle.placement.specs.Placement.{server_of}
 use Rattle.name_hash.specs.RowPlace.{row_key}
 use Rattle.sessions.specs.declared.kept.Kept.{Kept}
-use Rattle.sessions.specs.Kept as sessions
-use Rattle.node_core.specs.declared.part.Part.{Part}
+use Rattle.partition.specs.declared.partition.Partition.{Partition}
+use Rattle.partition.specs.Serving.{empty_part, part_noted}
+use Rattle.split.specs.Pieces.{Collected}
 
 -- a partition's directory and its number there
 abbrev pub PartKey : Type 0
@@ -29,14 +30,23 @@ PartKey = ℕ × ℕ
 abbrev pub part_cmp : PartKey → PartKey → Ordering
 part_cmp a b = ordering_then (nat_cmp a.0 b.0) (nat_cmp a.1 b.1)
 
+abbrev pub PartMap : Type 0
+PartMap = map.FinMap part_cmp Partition
+
 pub record NodeV : Type 0 where
   -- the server's number
   pub server : ℕ
   pub setup : Setup
   -- the next directory number that it gives
   pub next : ℕ
+  -- the floor of a partition 0 in which nothing was noted
+  pub floor : ℕ
+  -- the bitmaps of directories; one that is not here is of a directory of which partition 0 alone is known
+  pub bits : map.FinMap nat_cmp Bits
   -- its partitions; a partition 0 that is not here is one that nothing was noted in
-  pub parts : map.FinMap part_cmp Part
+  pub parts : PartMap
+  -- the pieces that came so far, of the partitions that are on their way here
+  pub pieces : map.FinMap part_cmp Collected
 
 -- a node with its rows
 pub record NodeAndRows : Type 0 where
@@ -54,29 +64,36 @@ end_of_numbers server = (server + 1) * SERVER_DIRECTORIES
 abbrev pub has_numbers : NodeV → Bool
 has_numbers node = nat_le (node.next + SERVE_DIRECTORIES) (end_of_numbers node.server)
 
--- a partition in which nothing was noted
-abbrev pub new_part : Part
-new_part = record { count = 0; sessions = map.empty }
-
 abbrev pub new_node : ℕ → Setup → NodeV
-new_node server setup = record { server = server; setup = setup; next = first_number server; parts = map.empty }
+new_node server setup = record {
+  server = server;
+  setup = setup;
+  next = first_number server;
+  floor = 0;
+  bits = map.empty;
+  parts = map.empty;
+  pieces = map.empty;
+}
 
 -- a node on which nothing was noted yet
 abbrev pub is_new : NodeV → Bool
 is_new node = (node.next == first_number node.server) && (map.len node.parts == 0)
 
 -- the node without its sessions
-abbrev pub cleared_part : PartKey × Part → PartKey × Part
-cleared_part entry = (entry.0, record { count = entry.1.count; sessions = map.empty })
+abbrev pub part_cleared : Partition → Partition
+part_cleared part = record part { sessions = map.empty }
 
-abbrev pub parts_cleared : map.FinMap part_cmp Part → map.FinMap part_cmp Part
+abbrev pub cleared_part : PartKey × Partition → PartKey × Partition
+cleared_part entry = (entry.0, part_cleared entry.1)
+
+abbrev pub parts_cleared : PartMap → PartMap
 parts_cleared parts = map.from_entries (list_map cleared_part (map.entries parts))
 
 abbrev pub cleared : NodeV → NodeV
-cleared node = record { server = node.server; setup = node.setup; next = node.next; parts = parts_cleared node.parts }
+cleared node = record node { parts = parts_cleared node.parts }
 
-abbrev pub part_in : NodeV → ℕ → ℕ → Part
-part_in node dir part = unwrap_or (map.get node.parts (dir, part)) new_part
+abbrev pub part_in : NodeV → ℕ → ℕ → Partition
+part_in node dir part = unwrap_or (map.get node.parts (dir, part)) (empty_part node.floor)
 
 -- what the partition keeps of a client
 unfoldable pub session_in : NodeV → ℕ → ℕ → ℕ → Option Kept
@@ -87,12 +104,16 @@ abbrev pub server_for : ℕ → ℕ → ℕ → ℕ
 server_for servers dir part = server_of dir part servers
 
 -- the partition that a node locates for a name of a directory: nothing splits, so each directory is its partition 0
-abbrev pub part_for : NodeV → ℕ → List ℕ → ℕ
+unfoldable pub part_for : NodeV → ℕ → List ℕ → ℕ
 part_for node dir name = 0
 
--- the partitions of a directory that a node knows: nothing splits, so there is partition 0 alone
+-- partition 0 alone
+abbrev pub zero_bits : Bits
+zero_bits = set.insert set.empty 0
+
+-- the partitions of a directory that a node knows
 abbrev pub bits_in : NodeV → ℕ → Bits
-bits_in node dir = set.insert set.empty 0
+bits_in node dir = unwrap_or (map.get node.bits dir) zero_bits
 
 -- whether a partition lies on the node's server
 abbrev pub owns : NodeV → ℕ → ℕ → Bool
@@ -111,17 +132,17 @@ unfoldable pub rows_after : RowMap → ℕ → ℕ → List ℕ → Call → Fin
 rows_after rows dir part name call said =
     edited_rows rows (row_key dir part name) (edit_in rows dir part name call said)
 
+-- how many rows a partition has then
+abbrev pub count_after : NodeV → RowMap → ℕ → ℕ → List ℕ → Call → Final → ℕ
+count_after node rows dir part name call said =
+    edited_count (part_in node dir part).count (edit_in rows dir part name call said) (row_in rows dir part name)
+
 -- the node once a call on a name was carried out in a partition: the row is counted, the change is noted, and the
 -- numbers that it gave are used up
 unfoldable pub noted_in : NodeV → RowMap → ℕ → ℕ → List ℕ → ℕ → ℕ → Call → Final → NodeV
-noted_in node rows dir part name client seq call said =
-    record {
-      server = node.server;
-      setup = node.setup;
-      next = node.next + length (given_by call (Said said));
-      parts = map.insert node.parts (dir, part) (record {
-        count = edited_count (part_in node dir part).count (edit_in rows dir part name call said)
-            (row_in rows dir part name);
-        sessions = sessions.noted (part_in node dir part).sessions client seq said;
-      });
-    }
+noted_in node rows dir part name client seq call said = record node {
+  next = node.next + length (given_by call (Said said));
+  parts = map.insert node.parts (dir, part)
+      (part_noted (part_in node dir part) (record { client = client; seq = seq; said = said })
+      (count_after node rows dir part name call said));
+}

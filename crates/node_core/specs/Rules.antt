@@ -7,11 +7,10 @@ use Rattle.mds_base.specs.declared.call.Call.TheVariants.{Create, Mkdir, Remove,
 use Rattle.mds_base.specs.Calls.{CallOn, OnName, OnDirectory, OnPartition}
 use Rattle.mds_base.specs.Calls.{asked_of as call_on}
 use Rattle.mds_base.specs.declared.reply.Final.{Final}
-use Rattle.mds_base.specs.declared.reply.Final.TheVariants.{Created, CreatedDir, Exists, Removed, Missing, IsDir, Set}
-use Rattle.mds_base.specs.declared.reply.Final.TheVariants.{Stale}
+use Rattle.mds_base.specs.declared.reply.Final.TheVariants.{Missing}
 use Rattle.mds_base.specs.declared.reply.Reply.{Reply}
 use Rattle.mds_base.specs.declared.reply.Reply.TheVariants.{Said, Found}
-use Rattle.mds_base.specs.Entries.{is_file}
+use Rattle.partition.specs.Replies as replies
 use Rattle.records.specs.declared.msg.Msg.{Msg}
 use Rattle.records.specs.declared.msg.Msg.TheVariants.{Request}
 use Rattle.sessions.specs.declared.kept.Judged.{Judged}
@@ -61,15 +60,7 @@ request_in msg = None
 -- the reply that the plain rules give to a change, by the entry that stands there, with the number that mkdir would
 -- give
 abbrev pub said_of : Call → Option Attr → ℕ → Final
-said_of (Create dir name) None fresh = Created
-said_of (Create dir name) (Some attr) fresh = Exists
-said_of (Mkdir dir name) None fresh = CreatedDir fresh
-said_of (Mkdir dir name) (Some attr) fresh = Exists
-said_of (Remove dir name) None fresh = Missing
-said_of (Remove dir name) (Some attr) fresh = if is_file attr then Removed else IsDir
-said_of (Setattr dir name mode size stamp) None fresh = Missing
-said_of (Setattr dir name mode size stamp) (Some attr) fresh = Set
-said_of call before fresh = Stale
+said_of call before fresh = replies.said_of call before fresh
 
 -- the reply to a lookup
 abbrev pub found : Option Attr → ℕ → Reply

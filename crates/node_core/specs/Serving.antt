@@ -101,10 +101,16 @@ is_new_change New = true
 is_new_change (Again said) = false
 is_new_change (Old kept) = false
 
--- whether a change of a client would be noted in a partition of a directory
-abbrev pub may_carry : NodeV → ℕ → ℕ → ℕ → ℕ → Bool
-may_carry node dir client seq part = ((part == 0) && (has_numbers node && owns node dir 0))
-    && is_new_change (judge_kept (session_in node dir 0 client) seq)
+-- whether a change on a name of a directory may be noted in a partition of this server, as far as its session is aside
+abbrev pub is_placed : NodeV → ℕ → List ℕ → ℕ → Bool
+is_placed node dir name part =
+    (part == part_for node dir name) && (has_numbers node && owns node dir (part_for node dir name))
+
+-- whether a change of a client would be noted there
+abbrev pub may_carry : NodeV → ℕ → List ℕ → ℕ → ℕ → ℕ → Bool
+may_carry node dir name client seq part =
+    is_placed node dir name part
+    && is_new_change (judge_kept (session_in node dir (part_for node dir name) client) seq)
 
 -- whether the first record of a log is of this node, which is new
 abbrev pub is_head : NodeV → ℕ → ℕ → ℕ → ℕ → Bool
@@ -126,7 +132,7 @@ may_follow store item = false
 -- the store once a record was replayed; a record that may not follow changes nothing
 abbrev pub replayed_as : NodeAndRows → Record → Bool → NodeAndRows
 replayed_as store (Served client seq part call said) true = carried_at store client seq call (asked_of call)
-replayed_as store Opened true = record { node = cleared store.node; rows = store.rows }
+replayed_as store Opened true = record store { node = cleared store.node }
 replayed_as store item follows = store
 
 abbrev pub replayed : NodeAndRows → Record → NodeAndRows

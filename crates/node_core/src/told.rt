@@ -1,11 +1,17 @@
 ghost use Rattle.std.specs.Prelude.{◌≡◌, ◌∷◌, [], IfOk};
 ghost use Rattle.records.specs.declared.record.Record.{Record};
-ghost use Rattle.mds_base.specs.declared.reply.Reply.{Reply};
 ghost use Rattle.node_core.specs.Serving.{answer_to};
 
 use mds_base::{Ask, Final, Reply};
 use records::{Handled, Msg, MsgList, Record, RecordList};
 use std::alloc::{AllocError, Global};
+
+/// No record.
+pub fn no_records(alloc: Global) -> RecordList
+    ensures { result ≡ [] }
+{
+    RecordList::new(alloc)
+}
 
 /// Nothing is recorded, and nothing is sent.
 pub fn nothing(alloc: Global) -> Handled
@@ -18,10 +24,9 @@ pub fn nothing(alloc: Global) -> Handled
     }
 }
 
-/// A request is answered, and nothing is recorded.
-pub fn answered(alloc: Global, ask: &Ask, reply: Reply) -> Result<Handled, AllocError>
-    ensures records { IfOk result (λ handled. handled.records ≡ []) }
-    ensures outputs { IfOk result (λ handled. handled.outputs ≡ answer_to ask.now reply ∷ []) }
+/// The answer to a request.
+pub fn answer(alloc: Global, ask: &Ask, reply: Reply) -> Result<MsgList, AllocError>
+    ensures { IfOk result (λ outputs. outputs ≡ answer_to ask.now reply ∷ []) }
 {
     let mut outputs = MsgList::new(alloc);
     outputs.push(Msg::Answer {
@@ -30,31 +35,34 @@ pub fn answered(alloc: Global, ask: &Ask, reply: Reply) -> Result<Handled, Alloc
         attempt: ask.attempt,
         reply,
     })?;
+    Ok(outputs)
+}
+
+/// A request is answered, and nothing is recorded.
+pub fn answered(alloc: Global, ask: &Ask, reply: Reply) -> Result<Handled, AllocError>
+    ensures records { IfOk result (λ handled. handled.records ≡ []) }
+    ensures outputs { IfOk result (λ handled. handled.outputs ≡ answer_to ask.now reply ∷ []) }
+{
+    let outputs = answer(alloc, ask, reply)?;
     Ok(Handled {
         records: RecordList::new(alloc),
         outputs,
     })
 }
 
-/// A change is answered and recorded.
-pub fn recorded(alloc: Global, ask: &Ask, said: Final) -> Result<Handled, AllocError>
-    ensures records { IfOk result
-        (λ handled. handled.records ≡ Record.Served ask.now.client ask.now.seq 0 ask.now.call said ∷ []) }
-    ensures outputs { IfOk result (λ handled. handled.outputs ≡ answer_to ask.now (Reply.Said said) ∷ []) }
+/// The record of a change that was carried out in a partition.
+pub fn record_of(alloc: Global, ask: &Ask, part: u32, said: Final) -> Result<RecordList, AllocError>
+    ensures { IfOk result
+        (λ records. records ≡ Record.Served ask.now.client ask.now.seq part ask.now.call said ∷ []) }
 {
     let call = ask.call.copy(alloc)?;
     let mut records = RecordList::new(alloc);
     records.push(Record::Served {
         client: ask.client,
         seq: ask.seq,
-        part: 0,
+        part,
         call,
         said,
     })?;
-    let told = answered(alloc, ask, Reply::Said(said))?;
-    let Handled {
-        records: _none,
-        outputs,
-    } = told;
-    Ok(Handled { records, outputs })
+    Ok(records)
 }

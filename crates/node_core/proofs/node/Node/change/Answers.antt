@@ -1,13 +1,9 @@
-use Rattle.std.proofs.Common.{◌∙◌, ap}
-use Rattle.node_core.specs.Nodes.{NodeV}
-use Rattle.node_core.specs.Undoing.{before_in, undone}
-use Rattle.node_core.proofs.Undoes.{note_undone}
+use Rattle.std.proofs.Common.{ap}
+use Rattle.std.specs.FinMap as map
+use Rattle.node_core.specs.Nodes.{NodeV, part_cmp}
+use Rattle.node_core.proofs.Parts.{new_in}
 use Rattle.node_core.proofs.node.Node.change.Goals as goal
 
-pub returns-in-Err-clause-err : goal.returns-in-Err-clause-err
-returns-in-Err-clause-err g c =
-    let change = c.args.change in
-    let taken_back = c.undo.ensures ∙ ap (undone c.note.new.self) c.before_in-undo.ensures
-    ∙ ap (λ (n : NodeV). undone n (before_in c.args.self.now change.dir change.client)) c.in_ok-note.ensures.ok
-    ∙ note_undone c.args.self.now change.dir change.client change.seq change.weighed.said change.weighed.edit change.before in
-    (taken_back, c.in-Err.ensures.err)
+pub change_in-requires-clause-newer : goal.change_in-requires-clause-newer
+change_in-requires-clause-newer g c =
+    new_in c.args.self.now (map.from_entries {R = part_cmp} c.self.inside.parts.entries) c.self.inside.floor c.args.change.dir c.args.change.part c.args.change.session.client c.args.change.session.seq (ap (λ (n : NodeV). n.parts) c.self.view_is) (ap (λ (n : NodeV). n.floor) c.self.view_is) c.requires.made.newer

@@ -1,4 +1,4 @@
-use Rattle.std.proofs.Common.{◌∙◌, sym, ap, subst, refl, Option, None}
+use Rattle.std.proofs.Common.{sym, subst, refl, Option, None}
 use Rattle.std.specs.Prelude.{IfOk}
 use Rattle.mds_base.specs.declared.ask.Ask.{Ask}
 use Rattle.node_core.specs.Nodes.{NodeAndRows}
@@ -19,6 +19,5 @@ returns-in-Some-clause-ok g c =
 pub returns-in-None-clause-ok : goal.returns-in-None-clause-ok
 returns-in-None-clause-ok g c =
     let store : NodeAndRows = record { node = c.args.self.now; rows = g.R.Rows.contents c.args.rows.now } in
-    let plan = c.unchanging.result in
-    subst (λ (request : Option Ask). IsPlanOf store (serve_request store request c.args.now) plan) c.in-None.ensures
-    (plans_nothing store (serve_request store None c.args.now) plan c.unchanging.ensures.change refl (ap (λ h. h.records) c.unchanging.ensures.handled ∙ c.nothing.ensures.records) (ap (λ h. h.outputs) c.unchanging.ensures.handled ∙ c.nothing.ensures.outputs))
+    subst (λ (request : Option Ask). IsPlanOf store (serve_request store request c.args.now) c.idle.result) c.in-None.ensures
+    (plans_nothing store (serve_request store None c.args.now) c.idle.result c.idle.ensures.change refl c.idle.ensures.records c.idle.ensures.outputs)

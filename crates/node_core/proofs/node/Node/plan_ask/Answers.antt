@@ -16,6 +16,5 @@ pub returns-in-NothingYet-clause-ok : goal.returns-in-NothingYet-clause-ok
 returns-in-NothingYet-clause-ok g c =
     let store : NodeAndRows = record { node = c.args.self.now; rows = g.R.Rows.contents c.args.rows.now } in
     let served = not_served store c.args.ask.now c.args.now (sym c.in-NothingYet.ensures) in
-    plans_nothing store _ c.unchanging.result c.unchanging.ensures.change (ap (λ v. v.store) (sym served))
-    (ap (λ h. h.records) c.unchanging.ensures.handled ∙ c.nothing.ensures.records ∙ ap (λ v. v.records) (sym served))
-    (ap (λ h. h.outputs) c.unchanging.ensures.handled ∙ c.nothing.ensures.outputs ∙ ap (λ v. v.outputs) (sym served))
+    plans_nothing store _ c.idle.result c.idle.ensures.change (ap (λ v. v.store) (sym served))
+    (c.idle.ensures.records ∙ ap (λ v. v.records) (sym served)) (c.idle.ensures.outputs ∙ ap (λ v. v.outputs) (sym served))

@@ -3,7 +3,7 @@ use Rattle.std.specs.FinMap as map
 use Rattle.mds_base.proofs.Maps.{entries_of_sorted}
 use Rattle.node_core.specs.Nodes.{part_cmp}
 use Rattle.node_core.proofs.Views.{parts_total, exact_parts}
-use Rattle.node_core.proofs.node.is_bare.Goals as goal
+use Rattle.node_core.proofs.replaying.is_bare.Goals as goal
 
 pub returns : goal.returns
 returns c =
