@@ -27,4 +27,5 @@ zero_holder dir name = refl
 
 -- the partition that a server locates for a name as its own holds the name
 pub own_holder : (node : NodeV) (dir : ℕ) (name : List ℕ) → keepers.holder dir name ≡ part_for node dir name
+unfolding part_for
 own_holder node dir name = zero_holder dir name

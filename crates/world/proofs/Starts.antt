@@ -12,10 +12,10 @@ use Rattle.mds_base.specs.Entries.{Entries, place_cmp}
 use Rattle.mds_base.specs.RowKeys.{row_key_cmp}
 use Rattle.mds_base.specs.History.{IsLegal}
 use Rattle.bitmap.specs.Bits.{has}
-use Rattle.node_core.specs.Nodes.{new_node, server_for, session_in, row_in, part_cmp, new_part}
+use Rattle.node_core.specs.Nodes.{new_node, server_for, session_in, row_in}
 use Rattle.node_core.specs.Terms.{SharesHead, node_on}
 use Rattle.name_hash.specs.RowPlace.{row_key}
-use Rattle.node_core.proofs.Views.{session_cleared}
+use Rattle.node_core.proofs.Views.{session_cleared, session_new}
 use Rattle.client_core.specs.declared.client.Pending.{Pending}
 use Rattle.client_core.specs.Clients.{new_client, zero_bits}
 use Rattle.world.specs.declared.state.ServerState.{ServerState}
@@ -51,11 +51,6 @@ no_row : (dir : ℕ) (name : List ℕ) → row_in map.empty dir 0 name ≡ None
 unfolding row_in
 no_row dir name = map.get-empty row_key_cmp (row_key dir 0 name)
 
-pub no_session : (server : ℕ) (setup : Setup) (dir part client : ℕ) → session_in (new_node server setup) dir part client ≡ None
-unfolding session_in
-no_session server setup dir part client =
-    ap (λ o. map.get (unwrap_or o new_part).sessions client) (map.get-empty part_cmp (dir, part)) ∙ map.get-empty nat_cmp client
-
 row_of_store : (o : Option ServerState) (dir : ℕ) (name : List ℕ) → row_in (store_or o).rows dir 0 name ≡ row_or o dir name
 row_of_store None dir name = no_row dir name
 row_of_store (Some state) dir name = refl
@@ -72,7 +67,7 @@ nothing_legal entries = record { allowed = tt; from_two = tt; once = tt }
 
 module _ (setup : Setup) (servers : List ServerState) (entries : Entries) (start : IsStart setup servers entries) where
   session_none : (o : Option ServerState) (k : ℕ) → slice_get servers k ≡ o → (dir part client : ℕ) → session_in (store_or o).node dir part client ≡ None
-  session_none None k is dir part client = no_session 0 _ dir part client
+  session_none None k is dir part client = session_new 0 _ dir part client
   session_none (Some state) k is dir part client = (start.each.at k state is).sessions dir part client
 
   session_at : (k dir part client : ℕ) → session_in (store_in servers k).node dir part client ≡ None
@@ -160,7 +155,7 @@ start_new setup some = record {
           is_server = record { server = refl; setup' = refl };
           up = refl;
           doubt = refl;
-          sessions = no_session k setup;
+          sessions = session_new k setup;
           next = record { from = omega arith; to = omega arith };
         });
   };
