@@ -9,3 +9,4 @@ pub mod Serving
 pub mod Standing
 pub mod Stores
 pub mod StandingOn
+pub mod StandingAlike

@@ -1,4 +1,4 @@
--- A file stands for one store at most, and none that stands for a store is damaged.
+-- A file stands for one store at most, so far as a log can bring it back, and none that stands for a store is damaged.
 use Rattle.std.proofs.Common.{◌≡◌, ◌∙◌, sym, ap, subst, refl, ℕ, ◌<◌, List, [], ◌∷◌, ◌++◌, append_assoc, length, arith, true, inl, inr}
 use Rattle.std.specs.List.{AllByRecursion, flat_map}
 use Rattle.std.proofs.lemmas.Bool.{and_parts}
@@ -13,6 +13,7 @@ use Rattle.records.specs.declared.record.Record.TheVariants as records
 use Rattle.records.specs.Spelling.{IsRecord, IsHead, record_spelling}
 use Rattle.gate_log.specs.Log.{HoldsLog}
 use Rattle.gate_log.proofs.Unique.{one_log, no_log}
+use Rattle.node_core.specs.Durable.{durable}
 use Rattle.node_core.specs.Nodes.{NodeAndRows}
 use Rattle.node_core.specs.Serving.{may_follow, replayed, replayed_all}
 use Rattle.node_store.specs.Damage.{NoneFollows, HasFirst, IsWrongAt, IsDamaged, head_spelling, wanted_head}
@@ -52,8 +53,8 @@ same_tail x y xs ys e = cc
 same_head : (x y : List ℕ) (xs ys : List (List ℕ)) → ◌≡◌ {A = List (List ℕ)} (x ∷ xs) (y ∷ ys) → x ≡ y
 same_head x y xs ys e = cc
 
--- bodies stand for one store
-pub stand_once : (server : ℕ) (setup : Setup) (bodies others : List (List ℕ)) (a b : NodeAndRows) → bodies ≡ others → StandFor server setup bodies a → StandFor server setup others b → a ≡ b
+-- bodies stand for one store, so far as a log can bring it back
+pub stand_once : (server : ℕ) (setup : Setup) (bodies others : List (List ℕ)) (a b : NodeAndRows) → bodies ≡ others → StandFor server setup bodies a → StandFor server setup others b → durable a ≡ durable b
 stand_once server setup bodies others a b same s t =
     let rests = same_tail (record_spelling (head_of server setup)) (record_spelling (head_of server setup)) s.rest t.rest (sym s.head ∙ same ∙ t.head) in
     let items = one_each t.rest s.items t.items (subst (λ (r : List (List ℕ)). AreBodies r s.items) rests s.are) t.are in
@@ -68,7 +69,7 @@ new_has_none file body bodies (inr none) holds = let e = one_log [] (body ∷ bo
 pub new_stands_not : (server : ℕ) (setup : Setup) (file : List ℕ) (bodies : List (List ℕ)) (store : NodeAndRows) → IsNewFile file → HoldsLog bodies file → StandFor server setup bodies store → ⊥
 new_stands_not server setup file bodies store new holds s = new_has_none file (record_spelling (head_of server setup)) s.rest new (subst (λ (b : List (List ℕ)). HoldsLog b file) s.head holds)
 
-pub one_store : (server : ℕ) (setup : Setup) (file : List ℕ) (a b : NodeAndRows) → FileStandsFor server setup file a → FileStandsFor server setup file b → a ≡ b
+pub one_store : (server : ℕ) (setup : Setup) (file : List ℕ) (a b : NodeAndRows) → FileStandsFor server setup file a → FileStandsFor server setup file b → durable a ≡ durable b
 one_store server setup file a b (inl new) (inl other) = new.1 ∙ sym other.1
 one_store server setup file a b (inl new) (inr log) = absurd (new_stands_not server setup file log.0 b new.0 log.1 log.2)
 one_store server setup file a b (inr log) (inl new) = absurd (new_stands_not server setup file log.0 a new.0 log.1 log.2)

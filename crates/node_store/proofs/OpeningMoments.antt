@@ -18,8 +18,11 @@ use Rattle.node_store.specs.Opening.{StandsLike, StandAlike, IsAsBefore, IsOpenL
 use Rattle.node_store.specs.Reading.{IsRefusal, IsBad}
 use Rattle.node_store.specs.Stands.{FileStandsFor, IsBody, head_of, new_store, opened_store}
 use Rattle.node_store.specs.Store.{HoldsStore, IsKept, KeepsAny, StandsForAny, StandsForEither}
+use Rattle.node_core.specs.Durable.{durable}
+use Rattle.node_core.proofs.Durably.{new_durably}
 use Rattle.node_store.proofs.OpeningLaws.{one_store}
 use Rattle.node_store.proofs.ReadingLogs.{stand_first}
+use Rattle.node_store.proofs.StandingAlike.{file_alike, opened_alike, new_stands}
 
 -- the file stands for each store for which the bytes stand once it was opened
 abbrev pub StandsOpened : ℕ → Setup → List ℕ → List ℕ → Type 0
@@ -41,9 +44,9 @@ no_body (Some bytes) log images one kept = subst (λ (b : List (List ℕ)). IsLo
 
 -- a file that holds no body, or the head alone, stands for what one that holds no body stands for
 like_first : (server : ℕ) (setup : Setup) (body bytes file : List ℕ) → body ≡ record_spelling (head_of server setup) → HoldsLog [] bytes → IsBeforeOrAfter [] body file → StandsLike server setup bytes file
-like_first server setup body bytes file is none (inl before) = λ store stands. inl (inr before, one_store server setup bytes store (new_store server setup) stands (inl (inr none, refl)))
+like_first server setup body bytes file is none (inl before) = λ store stands. inl (inr before, one_store server setup bytes store (new_store server setup) stands (inl (inr none, new_durably server setup)) ∙ new_durably server setup)
 like_first server setup body bytes file is none (inr after) = λ store stands.
-    subst (FileStandsFor server setup file) (sym (one_store server setup bytes store (new_store server setup) stands (inl (inr none, refl)))) (inr (body ∷ [], after, stand_first server setup body is))
+    file_alike server setup (new_store server setup) store (sym (one_store server setup bytes store (new_store server setup) stands (inl (inr none, new_durably server setup)))) file (inr (body ∷ [], after, stand_first server setup body is))
 
 module _ (server : ℕ) (setup : Setup) (body : List ℕ) (is : body ≡ record_spelling (head_of server setup)) where
   first_holds : (seen seen' : Option (List ℕ)) (old new : LogState) → StaysTold seen seen' → OnTold seen (IsLogOf old []) → ((bodies : List (List ℕ)) → OnTold seen (IsLogOf old bodies) → OnTold seen' (IsLogOf new (bodies ++ body ∷ [])))
@@ -80,6 +83,18 @@ module _ (server : ℕ) (setup : Setup) (body : List ℕ) (is : body ≡ record_
   first_moments moment since a b seen sizes images log unclosed one any =
       first_moment moment since a b images (seen 1) log (subst (λ (f : ℕ). OnTold (seen f) (IsLogOf log [])) unclosed.file (no_body (seen log.file) log images one unclosed.ready.told))
       (subst (λ (f : ℕ). (bodies : List (List ℕ)) → OnTold (seen f) (IsLogOf log bodies) → OnTold (seen f) (λ _. LeavesOnly moment since a b (λ image. IsBeforeOrAfter bodies body (image f)))) unclosed.file any)
+
+none_stands : (server : ℕ) (setup : Setup) (told : Option (List ℕ)) (log : LogState) → OnTold told (IsLogOf log []) → OnTold told (λ bytes. FileStandsFor server setup bytes (new_store server setup))
+none_stands server setup None log none = tt
+none_stands server setup (Some bytes) log none = new_stands server setup bytes (inr none.holds)
+
+-- before that append the bytes stand for the new store
+pub first_stands : (server : ℕ) (setup : Setup) (seen : Contents) (sizes : Lengths) (images : Image → Type 0) (log : LogState) → IsOpenLog log seen sizes images → log.length ≡ 1
+    → (node : NodeV) (rows : RowMap) → node ≡ (new_store server setup).node → rows ≡ (new_store server setup).rows → OnTold (seen 1) (λ bytes. FileStandsFor server setup bytes (record { node = node; rows = rows }))
+first_stands server setup seen sizes images log unclosed one node rows node_is rows_is =
+    let at = λ (n : NodeV) (r : RowMap). OnTold (seen 1) (λ bytes. FileStandsFor server setup bytes (record { node = n; rows = r })) in
+    let none : OnTold (seen 1) (IsLogOf log []) = subst (λ (f : ℕ). OnTold (seen f) (IsLogOf log [])) unclosed.file (no_body (seen log.file) log images one unclosed.ready.told) in
+    subst (λ (n : NodeV). at n rows) (sym node_is) (subst (at (new_store server setup).node) (sym rows_is) (none_stands server setup (seen 1) log none))
 
 -- ---- the body that begins a run
 
@@ -132,12 +147,12 @@ module _ {D : Type 0} (moment : D → ℕ) (since : D → ℕ → Image → Type
   then_opened old mid new (Some bytes) (Some file) (Some now) images store alike told stands first second =
       both moment since old mid new (IsAsBefore server setup images bytes) (StandsForEither server setup store (opened_store store)) (IsAsOpened server setup images bytes) first second (λ image left. inl left) either
     where
-      only : (other : NodeAndRows) → FileStandsFor server setup bytes other → store ≡ other
+      only : (other : NodeAndRows) → FileStandsFor server setup bytes other → durable store ≡ durable other
       only other is = one_store server setup file store other stands (alike.on other is)
 
       either : (image : Image) → StandsForEither server setup store (opened_store store) image → IsAsOpened server setup images bytes image
-      either image (inl here) = inl (inr (λ other is. subst (FileStandsFor server setup (image 1)) (only other is) here))
-      either image (inr here) = inr (λ other is. subst (λ (s : NodeAndRows). FileStandsFor server setup (image 1) (opened_store s)) (only other is) here)
+      either image (inl here) = inl (inr (λ other is. file_alike server setup store other (only other is) (image 1) here))
+      either image (inr here) = inr (λ other is. subst (FileStandsFor server setup (image 1)) (opened_alike store other (only other is)) here)
 
 -- ---- one of several stores
 

@@ -17,13 +17,16 @@ use Rattle.node_store.specs.Damage.{NoneFollows, IsWrongAt}
 use Rattle.node_store.specs.Stands.{StandFor, all_of, all_follow, head_of, new_store}
 use Rattle.node_store.specs.Store.{HoldsStore}
 use Rattle.node_store.specs.Reading.{LeadsOn, IsWrongWithin, IsWrongHead, HasReplayed, IsRefusal, IsBad}
+use Rattle.node_core.specs.Durable.{durable}
+use Rattle.node_core.proofs.Durably.{new_durably, replayed_all_durably}
 use Rattle.node_store.proofs.Standing.{replayed_more, follow_more, stand_more}
+use Rattle.node_store.proofs.StandingAlike.{all_follow_durably, none_follows_durably}
 
 -- ---- bodies that stand for a store
 
 -- the head alone stands for the new store
 pub stand_first : (server : ℕ) (setup : Setup) (body : List ℕ) → body ≡ record_spelling (head_of server setup) → StandFor server setup (body ∷ []) (new_store server setup)
-stand_first server setup body is = record { rest = []; items = []; head = ap (λ (b : List ℕ). b ∷ []) is; are = tt; follow = refl; leads = refl }
+stand_first server setup body is = record { rest = []; items = []; head = ap (λ (b : List ℕ). b ∷ []) is; are = tt; follow = refl; leads = new_durably server setup }
 
 -- one body more, whose records may follow
 pub stand_on : (server : ℕ) (setup : Setup) (bodies : List (List ℕ)) (old new : NodeAndRows) (body : List ℕ) → StandFor server setup bodies old → LeadsOn old body new → StandFor server setup (bodies ++ body ∷ []) new
@@ -88,6 +91,7 @@ module _ (server : ℕ) (setup : Setup) (log : LogState) (at : ℕ) where
       let s = has.stands in
       let read = reads has.bodies has.has in
       let new = new_store server setup in
+      let none_there : NoneFollows (replayed_all (durable old) wrong.front) wrong.rest = subst (λ (store : NodeAndRows). NoneFollows store wrong.rest) (sym (replayed_all_durably old wrong.front)) (none_follows_durably (replayed_all old wrong.front) wrong.rest wrong.none) in
       let parts : (has.bodies ++ body ∷ []) ++ read.after ≡ record_spelling (head_of server setup) ∷ s.rest ++ body ∷ read.after = append_assoc has.bodies (body ∷ []) read.after ∙ ap (λ (b : List (List ℕ)). b ++ body ∷ read.after) s.head in
       record {
         before = s.rest;
@@ -100,8 +104,8 @@ module _ (server : ℕ) (setup : Setup) (log : LogState) (at : ℕ) where
         each = wrong.each;
         rest = wrong.rest;
         split = wrong.split;
-        follow = follow_more new (all_of s.items) wrong.front s.follow (subst (λ (store : NodeAndRows). all_follow store wrong.front ≡ true) s.leads wrong.follow);
-        none = subst (λ (store : NodeAndRows). NoneFollows store wrong.rest) (ap (λ (store : NodeAndRows). replayed_all store wrong.front) s.leads ∙ sym (replayed_more new (all_of s.items) wrong.front)) wrong.none;
+        follow = follow_more new (all_of s.items) wrong.front s.follow (subst (λ (store : NodeAndRows). all_follow store wrong.front ≡ true) s.leads (all_follow_durably old wrong.front ∙ wrong.follow));
+        none = subst (λ (store : NodeAndRows). NoneFollows store wrong.rest) (ap (λ (store : NodeAndRows). replayed_all store wrong.front) s.leads ∙ sym (replayed_more new (all_of s.items) wrong.front)) none_there;
         empty = wrong.empty;
         place_is = omega (arith, has.has.at.place_is, ap (λ (b : List (List ℕ)). length (log_bytes b)) s.head, wrong.place_is);
       }

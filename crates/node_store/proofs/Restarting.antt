@@ -20,6 +20,7 @@ use Rattle.gate_log.proofs.Lengths.{gate_place_is}
 use Rattle.gate_log.proofs.Unique.{one_log}
 use Rattle.mds_out.specs.Disk.{Image, Contents, Shows, StaysTold}
 use Rattle.mds_out.specs.Known.{OnTold}
+use Rattle.node_core.specs.Durable.{durable}
 use Rattle.node_core.specs.Nodes.{NodeAndRows}
 use Rattle.node_core.specs.Serving.{replayed_all}
 use Rattle.node_store.specs.Damage.{IsDamagedAtRestart}
@@ -81,28 +82,28 @@ all_kept before after doubt more = ap (λ (b : Bool). take (cond b (length doubt
 
 module _ (server : ℕ) (setup : Setup) (store new : NodeAndRows) (doubt : List Record) (bodies : List (List ℕ)) (s : StandFor server setup bodies store) (follow : all_follow store doubt ≡ true) (before after : ℕ) (ends : before ≡ log_length bodies) where
   -- the log holds the bodies with the records in doubt, or without
-  kept_bodies : (file : List ℕ) (has : List (List ℕ)) → after ≡ log_length has → HoldsLog has file → StandFor server setup has new → HasDoubt bodies doubt file → new ≡ replayed_all store (take (kept_of before after doubt) doubt)
+  kept_bodies : (file : List ℕ) (has : List (List ℕ)) → after ≡ log_length has → HoldsLog has file → StandFor server setup has new → HasDoubt bodies doubt file → durable new ≡ durable (replayed_all store (take (kept_of before after doubt) doubt))
   kept_bodies file has ends' holds stands (inl old) =
       let same = one_log has bodies file holds old in
-      stand_once server setup has bodies new store same stands s ∙ ap (replayed_all store) (sym (none_kept before after doubt (ends' ∙ ap log_length same ∙ sym ends)))
+      stand_once server setup has bodies new store same stands s ∙ ap (λ items. durable (replayed_all store items)) (sym (none_kept before after doubt (ends' ∙ ap log_length same ∙ sym ends)))
   kept_bodies file has ends' holds stands (inr more) =
       let whole = bodies ++ more.0 ∷ [] in
       let same = one_log has whole file holds more.2 in
       let size = longer bodies more.0 in
       stand_once server setup has whole new (replayed_all store doubt) same stands (stand_more server setup bodies store more.0 doubt s more.1 follow)
-      ∙ ap (replayed_all store) (sym (all_kept before after doubt (omega (arith, ends', ap log_length same, ends, size))))
+      ∙ ap (λ items. durable (replayed_all store items)) (sym (all_kept before after doubt (omega (arith, ends', ap log_length same, ends, size))))
 
 module _ (server : ℕ) (setup : Setup) (log : LogState) (store : NodeAndRows) (doubt : List Record) where
   -- what a restart brings back, where the disk tells it
   pub brought_back : (told told' : Option (List ℕ)) (images : Image → Type 0) (log' : LogState) (new : NodeAndRows) (kept : ℕ) → StaysTold told told' → kept ≡ kept_of log.length log'.length doubt → OnTold told' (λ bytes. (image : Image) × images image × (image 1 ≡ bytes))
-      → OnTold told' (HoldsStore server setup log' new) → OnTold told (λ _. LeavesDoubt images server setup log store doubt) → OnTold told' (λ _. new ≡ replayed_all store (take kept doubt))
+      → OnTold told' (HoldsStore server setup log' new) → OnTold told (λ _. LeavesDoubt images server setup log store doubt) → OnTold told' (λ _. durable new ≡ durable (replayed_all store (take kept doubt)))
   brought_back None None images log' new kept stays is left holds owed = tt
   brought_back None (Some bytes) images log' new kept stays is left holds owed = absurd stays
   brought_back (Some before) None images log' new kept stays is left holds owed = tt
   brought_back (Some before) (Some bytes) images log' new kept stays is left holds owed =
       let has : HasDoubt owed.bodies doubt bytes = subst (HasDoubt owed.bodies doubt) left.2 (owed.each left.0 left.1) in
       kept_bodies server setup store new doubt owed.bodies owed.stands owed.follow log.length log'.length owed.ends bytes holds.bodies holds.is.ends holds.is.holds holds.stands has
-      ∙ ap (λ (k : ℕ). replayed_all store (take k doubt)) (sym is)
+      ∙ ap (λ (k : ℕ). durable (replayed_all store (take k doubt))) (sym is)
 
   -- a disk that a refused restart left owes what it owed
   pub still_owed : (told told' : Option (List ℕ)) (images images' : Image → Type 0) → StaysTold told told' → ((image : Image) → images' image → images image) → OnTold told (λ _. LeavesDoubt images server setup log store doubt) → OnTold told' (λ _. LeavesDoubt images' server setup log store doubt)
@@ -110,10 +111,6 @@ module _ (server : ℕ) (setup : Setup) (log : LogState) (store : NodeAndRows) (
   still_owed None (Some bytes) images images' stays old owed = absurd stays
   still_owed (Some before) None images images' stays old owed = tt
   still_owed (Some before) (Some bytes) images images' stays old owed = record { bodies = owed.bodies; stands = owed.stands; ends = owed.ends; follow = owed.follow; each = λ image now. owed.each image (old image now) }
-
-pub some_of : (told : Option (List ℕ)) (new other store : NodeAndRows) → other ≡ new → OnTold told (λ _. new ≡ store) → OnTold told (λ _. Some other ≡ Some store)
-some_of None new other store same is = tt
-some_of (Some bytes) new other store same is = ap (λ (s : NodeAndRows). Some s) (same ∙ is)
 
 -- ---- logs that are damaged
 

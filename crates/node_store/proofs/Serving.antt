@@ -1,5 +1,5 @@
 -- The records of a Serve have a spelling and may follow, and the node stays its server's.
-use Rattle.std.proofs.Common.{◌≡◌, ◌∙◌, sym, ap, subst, refl, ℕ, ◌+◌, ◌<◌, ◌≤◌, ◌==◌, List, [], ◌∷◌, length, Bool, true, false, cond, arith, lit<, Option, Some, None, MatchOption, if◌then◌else◌}
+use Rattle.std.proofs.Common.{◌≡◌, ◌∙◌, sym, ap, subst, refl, ℕ, ◌+◌, ◌<◌, ◌≤◌, ◌==◌, List, [], ◌∷◌, length, Bool, true, false, cond, arith, Option, Some, None, MatchOption, if◌then◌else◌}
 use Rattle.std.specs.Cmp.{eq_by_cmp_equiv}
 use Rattle.std.specs.FinMap as map
 use Rattle.std.specs.List.{AllByRecursion}
@@ -24,13 +24,17 @@ use Rattle.records.specs.Spelling.{IsRecord, IsDirectory, IsChange, MaySay, IsNu
 use Rattle.sessions.specs.declared.kept.Judged.{Judged}
 use Rattle.sessions.specs.declared.kept.Judged.TheVariants.{New, Again, Old}
 use Rattle.sessions.specs.Kept.{judge_kept}
-use Rattle.node_core.specs.Nodes.{NodeV, NodeAndRows, has_numbers, end_of_numbers, owns, session_in, row_in}
+use Rattle.node_core.specs.Nodes.{NodeV, NodeAndRows, part_for, has_numbers, end_of_numbers, owns, session_in, row_in}
 use Rattle.node_core.specs.Rules.{Asked, ChangeOf, LookOf, NotServed, asked_of, said_of, said_in, Outcome, Silent, Looks, Repeats, Carries, by_judged, outcome, outcome_of, request_in}
 use Rattle.node_core.specs.Serving.{serve, serve_request, served_as, part_at, may_carry, is_new_change, replayed_all}
 use Rattle.node_core.proofs.Calls.{each_change}
-use Rattle.node_core.proofs.ReplayLaw.{no_look, replay_law}
+use Rattle.node_core.specs.Durable.{durable}
+use Rattle.node_core.proofs.Durably.{replayed_all_durably, served_durably}
+use Rattle.node_core.proofs.ReplayLaw.{no_look}
 use Rattle.node_core.proofs.Replayed.{follows_so}
+use Rattle.node_core.proofs.Views.{part_fits}
 use Rattle.node_store.proofs.ReadingNodes.{still_all}
+use Rattle.node_store.proofs.StandingAlike.{node_of_durably, node_of_store}
 use Rattle.node_store.specs.Parts.{IsNodeOf}
 use Rattle.node_store.specs.Serve.{IsAsked, IsWellMade, IsRequest, IsMessage}
 use Rattle.node_store.specs.Stands.{all_follow, IsBody}
@@ -128,13 +132,14 @@ owned_new false j own said e = cc
 module _ (store : NodeAndRows) (ask : Ask) (now : ℕ) (said : Final) (asked : IsAsked ask) (numbers : has_numbers store.node ≡ true) (few : store.node.server < SERVERS_MOST) (from_two : 2 ≤ store.node.next) where
   carried_record : (dir : ℕ) (name : List ℕ) → asked_of ask.call ≡ ChangeOf dir name → outcome_of store ask now (ChangeOf dir name) ≡ Carries said → AreServed store (Served ask.client ask.seq (part_at store (asked_of ask.call)) ask.call said ∷ [])
   carried_record dir name is carries =
-      let o = owned_new (owns store.node dir 0) (judge_kept (session_in store.node dir 0 ask.client) ask.seq) (said_in store ask.call dir name) said carries in
-      let part : part_at store (asked_of ask.call) ≡ 0 = ap (part_at store) is in
-      let zero : (part_at store (asked_of ask.call) == 0) ≡ true = eq-eqb _ 0 part in
-      let may : may_carry store.node dir ask.client ask.seq (part_at store (asked_of ask.call)) ≡ true = and_from _ _ (and_from _ _ zero (and_from _ _ numbers o.0)) o.1.0 in
+      let own = part_for store.node dir name in
+      let o = owned_new (owns store.node dir own) (judge_kept (session_in store.node dir own ask.client) ask.seq) (said_in store ask.call dir name) said carries in
+      let part : part_at store (asked_of ask.call) ≡ own = ap (part_at store) is in
+      let placed : (part_at store (asked_of ask.call) == own) ≡ true = eq-eqb _ own part in
+      let may : may_carry store.node dir name ask.client ask.seq (part_at store (asked_of ask.call)) ≡ true = and_from _ _ (and_from _ _ placed (and_from _ _ numbers o.0)) o.1.0 in
       let follows = follows_so store ask.client ask.seq (part_at store (asked_of ask.call)) ask.call said dir name is may o.1.1 in
       let change = a_change ask.call dir name is asked.made in
-      let before = row_in store.rows dir 0 name in
+      let before = row_in store.rows dir own name in
       let in_range : IsDirectory store.node.next = (omega arith, number_fits store.node numbers few) in
       record {
         each = (
@@ -143,7 +148,7 @@ module _ (store : NodeAndRows) (ask : Ask) (now : ℕ) (said : Final) (asked : I
             few_clients = asked.few_clients;
             from_one = asked.from_one;
             fits = asked.fits;
-            below = subst (λ (p : ℕ). p < 1024) (sym part) (lit< tt);
+            below = subst (λ (p : ℕ). p < 1024) (sym part) (part_fits store.node dir name);
             change = change;
             reply = subst (MaySay ask.call) (sym o.1.1) (may_say store.node.next before ask.call dir name is);
             numbered = subst IsNumbered (sym o.1.1) (numbered_at store.node.next before in_range ask.call dir name is);
@@ -156,7 +161,7 @@ module _ (store : NodeAndRows) (ask : Ask) (now : ℕ) (said : Final) (asked : I
 
   carried_records : (a : Asked) → asked_of ask.call ≡ a → outcome_of store ask now a ≡ Carries said → AreServed store (Served ask.client ask.seq (part_at store (asked_of ask.call)) ask.call said ∷ [])
   carried_records (ChangeOf dir name) is carries = carried_record dir name is carries
-  carried_records (LookOf dir name) is carries = absurd (no_look (owns store.node dir 0) _ said carries)
+  carried_records (LookOf dir name) is carries = absurd (no_look (owns store.node dir (part_for store.node dir name)) _ said carries)
   carried_records NotServed is carries = cc
 
 served_records : (store : NodeAndRows) (ask : Ask) (now : ℕ) (o : Outcome) → outcome store ask now ≡ o → IsAsked ask → has_numbers store.node ≡ true → store.node.server < SERVERS_MOST → 2 ≤ store.node.next → AreServed store (served_as store ask o).records
@@ -176,21 +181,23 @@ serve_records store msg now made numbers few from_two = request_records store (r
 -- ---- the node stays its server's
 
 pub serve_stays : (server : ℕ) (setup : Setup) (store : NodeAndRows) (msg : Msg) (now : ℕ) → has_numbers store.node ≡ true → IsNodeOf server setup store.node → IsNodeOf server setup (serve store msg now).store.node
-serve_stays server setup store msg now numbers is = subst (λ (s : NodeAndRows). IsNodeOf server setup s.node) (replay_law store msg now numbers) (still_all server setup store (serve store msg now).records is)
+serve_stays server setup store msg now numbers is =
+    node_of_store server setup (serve store msg now).store
+    (subst (λ (s : NodeAndRows). IsNodeOf server setup s.node) (served_durably store msg now numbers) (still_all server setup (durable store) (serve store msg now).records (node_of_durably server setup store is)))
 
 -- ---- a body of a Serve's records
 
--- the records of the body are those of the Serve, and lead to the store that it makes
+-- the records of the body are those of the Serve, and lead to what a log can bring back of the store that it makes
 pub record IsServedBody (store : NodeAndRows) (msg : Msg) (now : ℕ) (body : List ℕ) : Type 0 where
   pub is : IsBody body (serve store msg now).records
   pub follow : all_follow store (serve store msg now).records ≡ true
-  pub leads : replayed_all store (serve store msg now).records ≡ (serve store msg now).store
+  pub leads : durable (replayed_all store (serve store msg now).records) ≡ durable (serve store msg now).store
 
 pub served_body : (store : NodeAndRows) (msg : Msg) (now : ℕ) (body : List ℕ) (items : List Record) → IsMessage msg → has_numbers store.node ≡ true → store.node.server < SERVERS_MOST → 2 ≤ store.node.next → items ≡ (serve store msg now).records → IsBody body items → IsServedBody store msg now body
 served_body store msg now body items made numbers few from_two same is = record {
   is = subst (λ (i : List Record). IsBody body i) same is;
   follow = (serve_records store msg now made numbers few from_two).follow;
-  leads = replay_law store msg now numbers;
+  leads = sym (replayed_all_durably store (serve store msg now).records) ∙ served_durably store msg now numbers;
 }
 
 pub same_store : (store : NodeAndRows) (node : NodeV) (rows : RowMap) → node ≡ store.node → rows ≡ store.rows → record { node = node; rows = rows } ≡ store

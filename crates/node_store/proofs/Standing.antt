@@ -11,6 +11,8 @@ use Rattle.mds_out.specs.Known.{OnTold}
 use Rattle.mds_out.proofs.Moments.{leaves_weaker}
 use Rattle.node_core.specs.Nodes.{NodeAndRows}
 use Rattle.node_core.specs.Serving.{may_follow, replayed, replayed_all}
+use Rattle.node_core.proofs.Durably.{replayed_all_durably}
+use Rattle.node_store.proofs.StandingAlike.{all_follow_durably}
 use Rattle.node_store.specs.Stands.{new_store, all_follow, IsBody, AreBodies, all_of, StandFor, FileStandsFor}
 use Rattle.node_store.specs.Store.{HoldsStore, IsKept, HasDoubt, LeavesDoubt, StandsForEither}
 
@@ -40,14 +42,14 @@ bodies_more (first ∷ bodies) (these ∷ items) body more are one = (are.0, bod
 pub stand_more : (server : ℕ) (setup : Setup) (bodies : List (List ℕ)) (store : NodeAndRows) (body : List ℕ) (more : List Record) → StandFor server setup bodies store → IsBody body more → all_follow store more ≡ true → StandFor server setup (bodies ++ body ∷ []) (replayed_all store more)
 stand_more server setup bodies store body more s is follow =
     let first = new_store server setup in
-    let follow' : all_follow (replayed_all first (all_of s.items)) more ≡ true = subst (λ (x : NodeAndRows). all_follow x more ≡ true) s.leads follow in
+    let follow' : all_follow (replayed_all first (all_of s.items)) more ≡ true = subst (λ (x : NodeAndRows). all_follow x more ≡ true) s.leads (all_follow_durably store more ∙ follow) in
     record {
       rest = s.rest ++ body ∷ [];
       items = s.items ++ more ∷ [];
       head = ap (λ (b : List (List ℕ)). b ++ body ∷ []) s.head;
       are = bodies_more s.rest s.items body more s.are is;
       follow = rw (all_more s.items more) (follow_more first (all_of s.items) more s.follow follow');
-      leads = ap (λ (x : NodeAndRows). replayed_all x more) s.leads ∙ sym (replayed_more first (all_of s.items) more) ∙ ap (replayed_all first) (sym (all_more s.items more));
+      leads = sym (replayed_all_durably store more) ∙ ap (λ (x : NodeAndRows). replayed_all x more) s.leads ∙ sym (replayed_more first (all_of s.items) more) ∙ ap (replayed_all first) (sym (all_more s.items more));
     }
 
 -- the log with the body or without it stands for the new store or the old one

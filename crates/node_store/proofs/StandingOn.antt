@@ -7,6 +7,7 @@ use Rattle.records.specs.Spelling.{record_spelling}
 use Rattle.node_core.specs.Nodes.{NodeAndRows}
 use Rattle.node_core.specs.Serving.{may_follow, replayed, replayed_all}
 use Rattle.node_core.specs.Terms.{SharesHead, store_on}
+use Rattle.node_core.proofs.Durably.{on_durably, alike_durably}
 use Rattle.node_core.proofs.OnTerms.{replays_on, replayed_all_on, replayed_all_terms, shares_on}
 use Rattle.node_store.specs.Stands.{new_store, all_follow, all_of, head_of, StandFor, FileStandsFor}
 
@@ -28,14 +29,14 @@ module _ (server : ℕ) (setup terms : Setup) (share : SharesHead setup terms) w
     head = stands.head ∙ ap (λ head. record_spelling head ∷ stands.rest) head_on;
     are = stands.are;
     follow = all_follow_on (new_store server setup) terms share (all_of stands.items) ∙ stands.follow;
-    leads = ap (store_on terms) stands.leads ∙ sym (replayed_all_on (new_store server setup) terms share (all_of stands.items));
+    leads = on_durably store terms ∙ ap (store_on terms) stands.leads ∙ sym (replayed_all_on (new_store server setup) terms share (all_of stands.items));
   }
 
   pub file_stands_on : (file : List ℕ) (store : NodeAndRows) → FileStandsFor server setup file store → FileStandsFor server terms file (store_on terms store)
-  file_stands_on file store (inl new) = inl (new.0, ap (store_on terms) new.1)
+  file_stands_on file store (inl new) = inl (new.0, on_durably store terms ∙ ap (store_on terms) new.1)
   file_stands_on file store (inr log) = inr (log.0, log.1, stand_on log.0 store log.2)
 
 -- a store for which a file stands is one on the terms by which it was read
 pub file_terms : (server : ℕ) (setup : Setup) (file : List ℕ) (store : NodeAndRows) → FileStandsFor server setup file store → store.node.setup ≡ setup
-file_terms server setup file store (inl new) = ap (λ (s : NodeAndRows). s.node.setup) new.1
-file_terms server setup file store (inr log) = ap (λ (s : NodeAndRows). s.node.setup) log.2.leads ∙ replayed_all_terms (new_store server setup) (all_of log.2.items)
+file_terms server setup file store (inl new) = sym (alike_durably store).setup ∙ ap (λ (s : NodeAndRows). s.node.setup) new.1
+file_terms server setup file store (inr log) = sym (alike_durably store).setup ∙ ap (λ (s : NodeAndRows). s.node.setup) log.2.leads ∙ replayed_all_terms (new_store server setup) (all_of log.2.items)

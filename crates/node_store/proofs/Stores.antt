@@ -1,16 +1,20 @@
 -- A server on a disk: what its parts say of it.
-use Rattle.std.proofs.Common.{◌≡◌, ◌∙◌, sym, ap, subst, refl, ℕ, List, [], Bool, true, false, cond, Option, Some, None, Ok, inl, inr, IsTrue, arith}
+use Rattle.std.specs.Prelude.{IsErrOf, IsErrAnd}
+use Rattle.std.proofs.Common.{◌≡◌, ◌∙◌, sym, ap, subst, refl, ℕ, List, [], Bool, true, false, cond, Option, Some, None, Ok, Err, Result, inl, inr, IsTrue, arith}
 use Rattle.mds_base.specs.declared.setup.Setup.{Setup}
+use Rattle.mds_base.specs.declared.store_fault.StoreFault.{StoreFault}
+use Rattle.mds_base.specs.declared.store_fault.StoreFault.TheVariants.{Device}
 use Rattle.records.specs.declared.record.Record.{Record}
 use Rattle.gate_log.specs.Log.{HoldsLog}
 use Rattle.gate_log.specs.LogState as logs
 use Rattle.gate_log.specs.LogState.{LogState}
 use Rattle.mds_out.specs.Disk.{Image, Contents, Lengths, LeavesOnly}
+use Rattle.mds_out.specs.Fault.{Rose}
 use Rattle.mds_out.specs.Known.{OnTold}
 use Rattle.mds_out.proofs.Moments.{started, both}
 use Rattle.gate_log.proofs.Scans.{unchanged_twice, same_twice}
 use Rattle.node_core.specs.Nodes.{NodeAndRows}
-use Rattle.node_store.specs.Disks.{IsStoreReading}
+use Rattle.node_store.specs.Disks.{IsStoreReading, IsStoreChanging}
 use Rattle.node_store.specs.Stands.{FileStandsFor, opened_store}
 use Rattle.node_store.specs.Store.{Store, HoldsStore, IsKept, LeavesDoubt, IsDownAt, KeepsStore, StandsForEither}
 
@@ -89,9 +93,9 @@ opened_told None server setup new opened = tt
 opened_told (Some bytes) server setup new opened = (opened.0, opened.1, ap (λ (s : NodeAndRows). Some s) opened.2)
 
 -- calls that change nothing, and one more
-pub reads_on : {D T U : Type 0} {seen : D → Contents} {sizes : D → Lengths} {images : D → Image → Type 0} {moment : D → ℕ} {since : D → ℕ → Image → Type 0} {faults changes : D → ℕ} {lasts fails : D → D → Type 0}
-    {a b c : D} {x : T} {y : U} → ((a b c : D) → lasts a b → lasts b c → lasts a c) → IsStoreReading seen sizes images moment since faults changes lasts fails a b (Ok x)
-    → IsStoreReading seen sizes images moment since faults changes lasts fails b c (Ok y) → IsStoreReading {T = Unit {0}} seen sizes images moment since faults changes lasts fails a c (Ok tt)
+pub reads_on : {D T U V : Type 0} {seen : D → Contents} {sizes : D → Lengths} {images : D → Image → Type 0} {moment : D → ℕ} {since : D → ℕ → Image → Type 0} {faults changes : D → ℕ} {lasts fails : D → D → Type 0}
+    {a b c : D} {x : T} {y : U} {z : V} → ((a b c : D) → lasts a b → lasts b c → lasts a c) → IsStoreReading seen sizes images moment since faults changes lasts fails a b (Ok x)
+    → IsStoreReading seen sizes images moment since faults changes lasts fails b c (Ok y) → IsStoreReading seen sizes images moment since faults changes lasts fails a c (Ok z)
 reads_on {seen = seen} {sizes = sizes} {images = images} {moment = moment} {since = since} {faults = faults} {a = a} {b = b} {c = c} lasts_on first second = record {
   unchanged = unchanged_twice (seen a) (seen b) (seen c) (sizes a) (sizes b) (sizes c) first.unchanged second.unchanged;
   crash = same_twice (images a) (images b) (images c) first.crash second.crash;
@@ -101,3 +105,48 @@ reads_on {seen = seen} {sizes = sizes} {images = images} {moment = moment} {sinc
   failed = λ is. cc;
   changes = second.changes ∙ first.changes;
 }
+
+-- an error is the same of every kind of result
+err_of : {T U : Type 0} (fault other : StoreFault) → IsErrOf {T = T} (Err fault) other → IsErrOf {T = U} (Err fault) other
+err_of fault other is = cc
+
+is_err : {T : Type 0} (r : Result T StoreFault) (fault : StoreFault) → IsErrAnd r (λ e. e ≡ fault) → r ≡ Err fault
+is_err (Ok x) fault came = absurd came
+is_err (Err e) fault came = ap Err came
+
+-- .. and one more that is refused
+pub reads_fail : {D T U V : Type 0} {seen : D → Contents} {sizes : D → Lengths} {images : D → Image → Type 0} {moment : D → ℕ} {since : D → ℕ → Image → Type 0} {faults changes : D → ℕ} {lasts fails : D → D → Type 0}
+    {a b c : D} {x : T} {fault : StoreFault} {r : Result V StoreFault} → ((a b c : D) → lasts a b → lasts b c → lasts a c) → ((a b c : D) → lasts a b → fails b c → fails a c) → IsStoreReading seen sizes images moment since faults changes lasts fails a b (Ok x)
+    → IsStoreReading {T = U} seen sizes images moment since faults changes lasts fails b c (Err fault) → IsErrAnd r (λ e. e ≡ fault) → IsStoreReading seen sizes images moment since faults changes lasts fails a c r
+reads_fail {U = U} {V = V} {seen = seen} {sizes = sizes} {images = images} {moment = moment} {since = since} {faults = faults} {changes = changes} {lasts = lasts} {fails = fails} {a = a} {b = b} {c = c} {fault = fault} {r = r} lasts_on fails_after first second came =
+    subst (λ (s : Result V StoreFault). IsStoreReading seen sizes images moment since faults changes lasts fails a c s) (sym (is_err r fault came)) (record {
+      unchanged = unchanged_twice (seen a) (seen b) (seen c) (sizes a) (sizes b) (sizes c) first.unchanged second.unchanged;
+      crash = same_twice (images a) (images b) (images c) first.crash second.crash;
+      any_moment = both moment since a b c (images a) (images b) (images a) first.any_moment second.any_moment (λ image is. is) first.crash.no_other;
+      cause = record {
+        later = omega (arith, first.cause.later, second.cause.later);
+        device = λ is. subst (λ (n : ℕ). Rose n (faults c)) first.cause.kept (second.cause.device (err_of {T = V} {U = U} fault Device is));
+        other = λ differ. second.cause.other differ ∙ first.cause.kept;
+        kept = tt;
+      };
+      lasts = lasts_on a b c first.lasts second.lasts;
+      failed = λ is. fails_after a b c first.lasts (second.failed (err_of {T = V} {U = U} fault Device is));
+      changes = second.changes ∙ first.changes;
+    })
+
+-- the same of calls that may change something, two of which go before
+pub changes_fail : {D S T U V : Type 0} {faults : D → ℕ} {lasts fails : D → D → Type 0} {a b c d : D} {x : S} {y : T} {fault : StoreFault} {r : Result V StoreFault} → ((a b c : D) → lasts a b → lasts b c → lasts a c) → ((a b c : D) → lasts a b → fails b c → fails a c)
+    → IsStoreChanging faults lasts fails a b (Ok x) → IsStoreChanging faults lasts fails b c (Ok y) → IsStoreChanging {T = U} faults lasts fails c d (Err fault) → IsErrAnd r (λ e. e ≡ fault) → IsStoreChanging faults lasts fails a d r
+changes_fail {U = U} {V = V} {faults = faults} {lasts = lasts} {fails = fails} {a = a} {b = b} {c = c} {d = d} {fault = fault} {r = r} lasts_on fails_after first second third came =
+    let kept : faults c ≡ faults a = second.cause.kept ∙ first.cause.kept in
+    let last = lasts_on a b c first.lasts second.lasts in
+    subst (λ (s : Result V StoreFault). IsStoreChanging faults lasts fails a d s) (sym (is_err r fault came)) (record {
+      cause = record {
+        later = omega (arith, first.cause.later, second.cause.later, third.cause.later);
+        device = λ is. subst (λ (n : ℕ). Rose n (faults d)) kept (third.cause.device (err_of {T = V} {U = U} fault Device is));
+        other = λ differ. third.cause.other differ ∙ kept;
+        kept = tt;
+      };
+      lasts = lasts_on a c d last third.lasts;
+      failed = λ is. fails_after a c d last (third.failed (err_of {T = V} {U = U} fault Device is));
+    })

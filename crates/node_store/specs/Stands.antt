@@ -8,6 +8,7 @@ use Rattle.records.specs.declared.record.Record.TheVariants.{Head, Opened}
 use Rattle.records.specs.Spelling.{IsRecord, record_spelling}
 use Rattle.gate_log.specs.Log.{HoldsLog}
 use Rattle.node_core.specs.Nodes.{NodeAndRows, new_node}
+use Rattle.node_core.specs.Durable.{durable}
 use Rattle.node_core.specs.Serving.{may_follow, replayed, replayed_all}
 
 -- a server on which nothing was noted yet, with its rows
@@ -40,14 +41,14 @@ abbrev pub head_of : ℕ → Setup → Record
 head_of server setup = Head 1 setup.servers server setup.threshold
 
 -- Bodies stand for a store: the first one is the head of this server, and the records of the others lead from the new
--- store to it.
+-- store to what a log can bring back of it.
 pub record StandFor (server : ℕ) (setup : Setup) (bodies : List (List ℕ)) (store : NodeAndRows) : Type 0 where
   pub rest : List (List ℕ)
   pub items : List (List Record)
   pub head : bodies ≡ record_spelling (head_of server setup) ∷ rest
   pub are : AreBodies rest items
   pub follow : all_follow (new_store server setup) (all_of items) ≡ true
-  pub leads : store ≡ replayed_all (new_store server setup) (all_of items)
+  pub leads : durable store ≡ replayed_all (new_store server setup) (all_of items)
 
 -- a file that is new: it has fewer than two bytes, or its first gate is closed
 abbrev pub IsNewFile : List ℕ → Type 0
@@ -55,7 +56,7 @@ IsNewFile file = (length file < 2) ⊎ HoldsLog [] file
 
 -- The file stands for a store: it is new, and so is the store, or its log's bodies stand for it.
 abbrev pub FileStandsFor : ℕ → Setup → List ℕ → NodeAndRows → Type 0
-FileStandsFor server setup file store = (IsNewFile file × (store ≡ new_store server setup))
+FileStandsFor server setup file store = (IsNewFile file × (durable store ≡ new_store server setup))
     ⊎ ((bodies : List (List ℕ)) × HoldsLog bodies file × StandFor server setup bodies store)
 
 -- the file's log stands for no store

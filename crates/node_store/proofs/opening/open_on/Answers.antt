@@ -3,6 +3,7 @@ use Rattle.node_core.specs.Nodes.{NodeAndRows}
 use Rattle.node_store.specs.Reading.{IsRefusal, IsBad, OnDamage}
 use Rattle.node_store.proofs.OpeningMoments.{any_moments, opened_more, then_alike, then_opened, stood_before, damaged_before, err_at}
 use Rattle.node_store.proofs.Damages.{no_damage, damage_read, stays_on}
+use Rattle.node_store.proofs.Stores.{changes_fail}
 use Rattle.node_store.proofs.opening.open_on.Goals as goal
 
 pub returns-in_err-log-clause-any_moment : goal.returns-in_err-log-clause-any_moment
@@ -65,3 +66,7 @@ returns-in_err-begin_run-clause-still g c =
     err_at c.from_residual-in_err-begin_run.result c.in_err-begin_run.field-0.0 (λ fault. OnDamage fault (g.D.Disk.seen c.args.disk.now 1) (λ bytes. g.D.Disk.seen c.begin_run.new.disk 1 ≡ Some bytes)) c.from_residual-in_err-begin_run.ensures.1
     (no_damage (g.D.Disk.seen c.args.disk.now 1) (g.D.Disk.seen c.bring_store.new.disk 1) c.in_err-begin_run.field-0.0 _
     (stays_on (g.D.Disk.seen c.args.disk.now 1) (g.D.Disk.seen c.bring_log.new.disk 1) (g.D.Disk.seen c.bring_store.new.disk 1) c.bring_log.ensures.told c.bring_store.ensures.told) c.in_err-begin_run.ensures.refused)
+
+pub returns-in_err-begin_run-clause-call : goal.returns-in_err-begin_run-clause-call
+returns-in_err-begin_run-clause-call g c =
+    changes_fail g.met.D.Disk.lasts_on g.met.D.Disk.fails_after c.in_ok-log.ensures.call c.in_ok-node.ensures.call c.in_err-begin_run.ensures.call c.from_residual-in_err-begin_run.ensures.1

@@ -5,7 +5,7 @@ use Rattle.gate_log.specs.Calls.{IsSomeGate}
 use Rattle.gate_log.specs.LogState.{LogState, IsReady}
 use Rattle.node_core.specs.Nodes.{NodeAndRows}
 use Rattle.node_store.specs.Reading.{HasReplayed, ReplaysOn}
-use Rattle.node_store.proofs.Stores.{reads_on}
+use Rattle.node_store.proofs.Stores.{reads_on, reads_fail}
 use Rattle.node_store.proofs.reading.read_log.Goals as goal
 
 pub bodies-preserved : goal.bodies-preserved
@@ -32,3 +32,9 @@ bodies-preserved g c =
 
 pub returns-in-None-clause-node : goal.returns-in-None-clause-node
 returns-in-None-clause-node g c = c.in_ok-next.ensures.node c.args.server c.args.setup c.bodies.invariant.node
+
+pub returns-in_err-next-clause-call : goal.returns-in_err-next-clause-call
+returns-in_err-next-clause-call g c = reads_fail g.met.D.Disk.lasts_on g.met.D.Disk.fails_after c.bodies.invariant.calls c.in_err-next.ensures.call c.from_residual-in_err-next.ensures.1
+
+pub returns-in-None-clause-call : goal.returns-in-None-clause-call
+returns-in-None-clause-call g c = reads_on g.met.D.Disk.lasts_on c.bodies.invariant.calls c.in_ok-next.ensures.call

@@ -1,11 +1,11 @@
 use Rattle.std.proofs.Common.{subst, sym, List}
-use Rattle.mds_out.specs.Disk.{LeavesOnly}
 use Rattle.mds_out.specs.Known.{OnTold}
 use Rattle.node_core.specs.Nodes.{NodeAndRows}
 use Rattle.node_core.specs.Serving.{serve}
 use Rattle.records.specs.declared.record.Record.{Record}
-use Rattle.node_store.specs.Store.{IsKept, LeavesDoubt, StandsForEither}
+use Rattle.node_store.specs.Store.{LeavesDoubt}
 use Rattle.node_store.proofs.Serving.{served_body}
+use Rattle.node_store.proofs.StandingAlike.{kept_alike, moment_alike}
 use Rattle.node_store.proofs.serve.serve_on.Goals as goal
 
 pub returns-in-Ok-clause-kept : goal.returns-in-Ok-clause-kept
@@ -13,7 +13,7 @@ returns-in-Ok-clause-kept g c = λ server setup k.
     let r = c.requires in
     let store : NodeAndRows = record { node = c.args.node.now; rows = c.args.rows.now } in
     let b = served_body store c.args.msg.now c.args.now c.in-Some.piece c.in_ok-handled.handled.records r.made r.numbers r.range r.from_two c.in_ok-handled.ensures.served.records (rw c.in-Some.is at c.in_ok-handled.ensures.piece) in
-    subst (λ (s : NodeAndRows). IsKept (g.D.Disk.seen c.append.new.disk) (g.D.Disk.sizes c.append.new.disk) (g.D.Disk.images c.append.new.disk) server setup c.append.new.log s) b.leads
+    kept_alike server setup _ _ b.leads (g.D.Disk.seen c.append.new.disk) (g.D.Disk.sizes c.append.new.disk) (g.D.Disk.images c.append.new.disk) c.append.new.log
     (c.in-Ok.ensures.kept server setup store (serve store c.args.msg.now c.args.now).records b.is b.follow k)
 
 pub returns-in-Ok-clause-any_moment : goal.returns-in-Ok-clause-any_moment
@@ -21,7 +21,7 @@ returns-in-Ok-clause-any_moment g c = λ server setup k.
     let r = c.requires in
     let store : NodeAndRows = record { node = c.args.node.now; rows = c.args.rows.now } in
     let b = served_body store c.args.msg.now c.args.now c.in-Some.piece c.in_ok-handled.handled.records r.made r.numbers r.range r.from_two c.in_ok-handled.ensures.served.records (rw c.in-Some.is at c.in_ok-handled.ensures.piece) in
-    subst (λ (s : NodeAndRows). OnTold (g.D.Disk.seen c.args.disk.now 1) (λ _. LeavesOnly g.D.Disk.moment g.D.Disk.images_since c.args.disk.now c.append.new.disk (StandsForEither server setup store s))) b.leads
+    moment_alike server setup _ _ b.leads g.D.Disk.moment g.D.Disk.images_since c.args.disk.now c.append.new.disk (g.D.Disk.seen c.args.disk.now 1) store
     (c.in-Ok.ensures.any_moment server setup store (serve store c.args.msg.now c.args.now).records b.is b.follow k)
 
 pub returns-in-Err-clause-any_moment : goal.returns-in-Err-clause-any_moment
@@ -29,7 +29,7 @@ returns-in-Err-clause-any_moment g c = λ server setup k.
     let r = c.requires in
     let store : NodeAndRows = record { node = c.args.node.now; rows = c.args.rows.now } in
     let b = served_body store c.args.msg.now c.args.now c.in-Some.piece c.in_ok-handled.handled.records r.made r.numbers r.range r.from_two c.in_ok-handled.ensures.served.records (rw c.in-Some.is at c.in_ok-handled.ensures.piece) in
-    subst (λ (s : NodeAndRows). OnTold (g.D.Disk.seen c.args.disk.now 1) (λ _. LeavesOnly g.D.Disk.moment g.D.Disk.images_since c.args.disk.now c.append.new.disk (StandsForEither server setup store s))) b.leads
+    moment_alike server setup _ _ b.leads g.D.Disk.moment g.D.Disk.images_since c.args.disk.now c.append.new.disk (g.D.Disk.seen c.args.disk.now 1) store
     (c.in-Err.ensures.any_moment server setup store (serve store c.args.msg.now c.args.now).records b.is b.follow k)
 
 pub returns-in-Err-clause-left : goal.returns-in-Err-clause-left

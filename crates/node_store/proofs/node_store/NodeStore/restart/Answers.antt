@@ -5,7 +5,8 @@ use Rattle.node_core.specs.Serving.{replayed_all}
 use Rattle.mds_out.specs.Known.{OnTold}
 use Rattle.node_store.specs.Reading.{IsRefusal}
 use Rattle.node_store.specs.Store.{Store, IsDownAt}
-use Rattle.node_store.proofs.Restarting.{err_at, on_err, told_image, kept_of, brought_back, some_of, still_owed, not_bad}
+use Rattle.node_store.proofs.Restarting.{err_at, on_err, told_image, kept_of, brought_back, still_owed, not_bad}
+use Rattle.node_store.proofs.StandingAlike.{some_restarted}
 use Rattle.node_store.proofs.Stores.{shown}
 use Rattle.node_store.proofs.node_store.NodeStore.restart.Goals as goal
 
@@ -42,7 +43,7 @@ returns-clause-up g c =
     let is : kept ≡ kept_of s.log.length c.in_ok-log.log.length s.doubt = c.count_kept-kept.ensures ∙ ap (λ (n : ℕ). kept_of n c.length.result s.doubt) c.length-2.ensures ∙ ap (λ (n : ℕ). kept_of s.log.length n s.doubt) c.length.ensures in
     let left = told_image (g.D.Disk.seen d) (g.D.Disk.images s.disk) (λ image shows. e.crash image (g.met.D.Disk.reads_as d image shows)) in
     subst (λ (v : Store _). (store : NodeAndRows) → IsDownAt g.D.Disk.seen g.D.Disk.images v store → OnTold (g.D.Disk.seen d 1) (λ _. Some other ≡ Some (replayed_all store (take kept v.doubt)))) c.self.view_is
-    (λ store owed. some_of (g.D.Disk.seen d 1) new other (replayed_all store (take kept s.doubt)) same
+    (λ store owed. some_restarted (g.D.Disk.seen d 1) new other (replayed_all store (take kept s.doubt)) c.args.now same
     (brought_back s.server s.setup s.log store s.doubt _ _ (g.D.Disk.images s.disk) c.in_ok-log.log new kept e.told is left c.in_ok-log.ensures.kept.holds owed.told))
 
 pub returns-clause-some : goal.returns-clause-some
