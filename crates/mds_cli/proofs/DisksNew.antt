@@ -8,6 +8,8 @@ use Rattle.mds_base.specs.declared.setup.Setup.{Setup}
 use Rattle.mds_out.specs.Content.{bytes_of}
 use Rattle.mds_out.specs.Disk.{Image, Contents}
 use Rattle.mds_out.specs.Past.{Past, content_of, IsPastImage}
+use Rattle.node_store.specs.Stands.{FileStandsFor}
+use Rattle.node_store.proofs.StandingAlike.{new_stands}
 use Rattle.world.specs.declared.state.ServerState.{ServerState}
 use Rattle.world.specs.Law.{new_servers}
 use Rattle.world.specs.Worlds.{new_server, store_of}
@@ -27,7 +29,7 @@ new_disks seen images setup disks count new = record {
   told = record { at = λ s disk at. ap is_some (new.at s disk at).told };
   left = record {
     at = λ s state at disk has image left.
-        inl (inl (inl (subst (λ b. length b < 2) (sym ((new.at s disk has).left image left)) (omega arith)), ap store_of (new_at setup s state at)));
+        inl (subst (λ x. FileStandsFor s setup (image 1) (store_of x)) (sym (new_at setup s state at)) (new_stands s setup (image 1) (inl (subst (λ b. length b < 2) (sym ((new.at s disk has).left image left)) (omega arith)))));
   };
 }
 

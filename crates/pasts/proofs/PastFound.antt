@@ -6,19 +6,21 @@ use Rattle.mds_base.specs.declared.setup.Setup.{Setup}
 use Rattle.mds_out.specs.Disk as disks
 use Rattle.mds_out.specs.Disk.{Image, Contents}
 use Rattle.mds_out.specs.Known.{OnTold}
+use Rattle.node_core.specs.Durable.{durable}
 use Rattle.node_core.specs.Nodes.{NodeAndRows}
 use Rattle.node_core.specs.Serving.{replayed_all}
 use Rattle.node_store.specs.Stands.{FileStandsFor, opened_store}
 use Rattle.node_store.specs.Store.{KeepsAny, StandsForAny}
+use Rattle.node_store.proofs.StandingAlike.{opened_alike}
 use Rattle.world.specs.declared.state.ServerState.{ServerState}
 use Rattle.world.specs.Worlds.{store_of}
 use Rattle.pasts.specs.Starts.{found_stores}
 use Rattle.pasts.proofs.NodeCleared.{opened_twice}
 use Rattle.pasts.proofs.PastClosed.{closed_as, closed_state}
 
--- a file stands for one store at most
+-- a file stands for one store at most, so far as a log can bring it back
 abbrev pub StandsForOne : Type 0
-StandsForOne = (server : ℕ) (setup : Setup) (file : List ℕ) (a b : NodeAndRows) → FileStandsFor server setup file a → FileStandsFor server setup file b → a ≡ b
+StandsForOne = (server : ℕ) (setup : Setup) (file : List ℕ) (a b : NodeAndRows) → FileStandsFor server setup file a → FileStandsFor server setup file b → durable a ≡ durable b
 
 -- a disk as it reads is one of its images
 abbrev pub ReadsAs : {D : Type 0} → (D → Contents) → (D → Image → Type 0) → Type 0
@@ -52,13 +54,13 @@ any_front s setup (store ∷ stores) more file any = elim any [ inl h ↦ inl h 
 found_one : StandsForOne → (s : ℕ) (setup : Setup) (bytes : List ℕ) (found a b : NodeAndRows) → FileStandsFor s setup bytes found → StandsForAny s setup (a ∷ b ∷ opened_store a ∷ opened_store b ∷ []) bytes
     → (keep : Bool) × (opened_store found ≡ opened_store (cond keep b a))
 found_one one s setup bytes found a b f any = elim any [
-  | inl h ↦ (false, ap opened_store (one s setup bytes found a f h))
+  | inl h ↦ (false, opened_alike found a (one s setup bytes found a f h))
   | inr any ↦ elim any [
-    | inl h ↦ (true, ap opened_store (one s setup bytes found b f h))
+    | inl h ↦ (true, opened_alike found b (one s setup bytes found b f h))
     | inr any ↦ elim any [
-      | inl h ↦ (false, ap opened_store (one s setup bytes found (opened_store a) f h) ∙ opened_twice a)
+      | inl h ↦ (false, opened_alike found (opened_store a) (one s setup bytes found (opened_store a) f h) ∙ opened_twice a)
       | inr any ↦ elim any [
-        | inl h ↦ (true, ap opened_store (one s setup bytes found (opened_store b) f h) ∙ opened_twice b)
+        | inl h ↦ (true, opened_alike found (opened_store b) (one s setup bytes found (opened_store b) f h) ∙ opened_twice b)
         | inr none ↦ absurd none
       ]
     ]
