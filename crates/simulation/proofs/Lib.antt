@@ -2,6 +2,7 @@ pub mod SimulationNew
 pub mod KeySets
 pub mod ClientsShown
 pub mod MessagesNamed
+pub mod MessagesAwaited
 pub mod RangesKept
 pub mod EventRun
 pub mod IssueRun

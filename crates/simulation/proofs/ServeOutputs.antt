@@ -1,7 +1,6 @@
 -- What serving a message sends, and the entry that it makes.
-use Rattle.std.proofs.Common.{◌≡◌, ◌∙◌, sym, ap, refl, ℕ, zero, suc, ◌==◌, Bool, true, false, cond, List, [], ◌∷◌, ◌++◌, Option, Some, None}
+use Rattle.std.proofs.Common.{◌≡◌, ◌∙◌, sym, ap, refl, ℕ, ◌==◌, Bool, true, false, cond, List, [], ◌∷◌, ◌++◌, Option, Some, None}
 use Rattle.std.specs.Prelude.{map as list_map}
-use Rattle.std.specs.List.{slice_get}
 use Rattle.std.proofs.lemmas.List.{append-nil, map-append}
 use Rattle.mds_base.specs.declared.ask.Ask.{Ask}
 use Rattle.mds_base.specs.declared.call.Call.{Call}
@@ -13,34 +12,15 @@ use Rattle.sessions.specs.declared.kept.Judged.{Judged}
 use Rattle.sessions.specs.declared.kept.Judged.TheVariants.{New, Again, Old}
 use Rattle.node_core.specs.Nodes.{NodeAndRows}
 use Rattle.node_core.specs.Rules.{Asked, ChangeOf, LookOf, NotServed, asked_of, Outcome, Silent, Looks, Repeats, Carries, outcome, outcome_of, by_judged, request_in}
-use Rattle.node_core.specs.Serving.{serve, serve_request, served_as, answer_to}
+use Rattle.node_core.specs.Serving.{serve, serve_request, served_as}
 use Rattle.node_core.proofs.Calls.{each_change, each_look}
-use Rattle.world.specs.Events.{is_for_server, is_for_client}
+use Rattle.world.specs.Events.{is_for_client}
 use Rattle.world.specs.Histories as past
 use Rattle.world.specs.Histories.{History, served_one}
 use Rattle.message_store.specs.declared.made.Kind.TheVariants as kinds
 use Rattle.message_store.specs.declared.made.Made.{Made}
 use Rattle.simulation.specs.Entries.{changes_of, looked, looked_by, looked_in, lookup_of, with_one}
 use Rattle.simulation.specs.Shows.{made_of, asks_as, is_request_of}
-
--- no server is sent anything
-
-answer_for_none : (s : ℕ) (ask : Ask) (reply : Reply) (k : ℕ) → is_for_server s (slice_get (answer_to ask reply ∷ []) k) ≡ false
-answer_for_none s ask reply zero = refl
-answer_for_none s ask reply (suc k) = refl
-
-as_for_none : (s : ℕ) (store : NodeAndRows) (ask : Ask) (o : Outcome) (k : ℕ) → is_for_server s (slice_get (served_as store ask o).outputs k) ≡ false
-as_for_none s store ask Silent k = refl
-as_for_none s store ask (Looks reply) k = answer_for_none s ask reply k
-as_for_none s store ask (Repeats said) k = answer_for_none s ask (Said said) k
-as_for_none s store ask (Carries said) k = answer_for_none s ask (Said said) k
-
-none_for : (s : ℕ) (store : NodeAndRows) (request : Option Ask) (now k : ℕ) → is_for_server s (slice_get (serve_request store request now).outputs k) ≡ false
-none_for s store None now k = refl
-none_for s store (Some ask) now k = as_for_none s store ask (outcome store ask now) k
-
-pub for_none : (s : ℕ) (store : NodeAndRows) (msg : Msg) (now k : ℕ) → is_for_server s (slice_get (serve store msg now).outputs k) ≡ false
-for_none s store msg now k = none_for s store (request_in msg) now k
 
 -- a reply is for the client that asked
 

@@ -1,10 +1,10 @@
 -- A server serves a message.
-use Rattle.std.proofs.Common.{◌≡◌, ◌∙◌, sym, ap, subst, refl, ℕ, zero, suc, ◌+◌, ◌<◌, ◌==◌, ◌&&◌, not, Bool, true, false, is_some, List, [], ◌∷◌, ◌++◌, length, Some, inl, inr, arith}
-use Rattle.std.specs.Prelude.{◌||◌, slice_set}
+use Rattle.std.proofs.Common.{◌≡◌, ◌∙◌, sym, ap, subst, refl, ℕ, ◌<◌, ◌==◌, ◌&&◌, not, Bool, true, false, List, [], ◌∷◌, ◌++◌, length, Some, inl, inr, arith}
+use Rattle.std.specs.Prelude.{◌||◌}
 use Rattle.std.specs.List.{slice_get}
 use Rattle.std.specs.FinSet as set
 use Rattle.std.proofs.lemmas.Bool.{and_from, eq-eqb, ne_eqb}
-use Rattle.std.proofs.lemmas.List.{append-nil, length-append}
+use Rattle.std.proofs.lemmas.List.{append-nil}
 use Rattle.std.proofs.lemmas.List.Folds.{list_any-append}
 use Rattle.mds_base.specs.declared.limits.TheConstants.{EVENTS}
 use Rattle.mds_base.specs.declared.setup.Setup.{Setup}
@@ -33,8 +33,8 @@ use Rattle.simulation.specs.Runs.{RunV, GoesOn, is_named, names}
 use Rattle.simulation.specs.Shows.{SimulationV, Shows, Happens, waiting_cmp, server_for, is_request_of}
 use Rattle.pasts.specs.Servers.{IsServerAt, IsServer}
 use Rattle.simulation.specs.Stores.{IsServedOn, IsStoppedOn}
-use Rattle.simulation.proofs.MessagesNamed.{Await, AreNamed, for_server}
-use Rattle.simulation.proofs.ServeOutputs.{IsFirstFor, for_none, first_for, serve_makes, serve_answered}
+use Rattle.simulation.proofs.MessagesNamed.{Await, AreNamed, for_server, await_all, named_all}
+use Rattle.simulation.proofs.ServeOutputs.{IsFirstFor, first_for, serve_makes, serve_answered}
 use Rattle.simulation.proofs.KeySets.{waiting_total, exact_waiting, remove_here, remove_apart, number_or_apart}
 use Rattle.simulation.proofs.EventRun.{goes_on, one_longer, still_few}
 use Rattle.pasts.proofs.ServersStand.{IsUpAs, as_up, server_of, servers_set}
@@ -61,55 +61,34 @@ and_false : (a : Bool) → (a && false) ≡ false
 and_false true = refl
 and_false false = refl
 
--- messages that are for no server leave it open who is asked
-sent_for : (s : ℕ) (sent outputs : List Msg) → ((k : ℕ) → is_for_server s (slice_get outputs k) ≡ false) → (k : ℕ) → is_for_server s (slice_get (sent ++ outputs) k) ≡ is_for_server s (slice_get sent k)
-sent_for s [] outputs none k = none k
-sent_for s (msg ∷ sent) outputs none zero = refl
-sent_for s (msg ∷ sent) outputs none (suc k) = sent_for s sent outputs none k
-
-module _ (waiting : set.FinSet waiting_cmp) (sent : List Msg) (events : List Event) (await : Await waiting sent events) (named : AreNamed sent events) (server message : ℕ) (how : ServeEnd) where
+module _ (waiting : set.FinSet waiting_cmp) (sent : List Msg) (events : List Event) (await : Await waiting sent events) (named : AreNamed sent events) (server message : ℕ) (how : ServeEnd) (msg : Msg) (there : slice_get sent message ≡ Some msg) where
   -- what is named does not wait
-  await_here : (outputs : List Msg) (s : ℕ) → (b : Bool) → is_for_server s (slice_get (sent ++ outputs) message) ≡ b → set.contains (set.remove waiting (server, message)) (s, message) ≡ false
-      → set.contains (set.remove waiting (server, message)) (s, message) ≡ (is_for_server s (slice_get (sent ++ outputs) message) && not (is_named (events ++ Serve server (message ∷ []) how ∷ []) message))
-  await_here outputs s b e gone =
-      gone ∙ sym (ap (λ n. is_for_server s (slice_get (sent ++ outputs) message) && not n) (named_one events server message message how true (eq-eqb message message refl) ∙ or_true (is_named events message)) ∙ and_false _)
+  await_here : (s : ℕ) → set.contains (set.remove waiting (server, message)) (s, message) ≡ false
+      → set.contains (set.remove waiting (server, message)) (s, message) ≡ (is_for_server s (slice_get sent message) && not (is_named (events ++ Serve server (message ∷ []) how ∷ []) message))
+  await_here s gone =
+      gone ∙ sym (ap (λ n. is_for_server s (slice_get sent message) && not n) (named_one events server message message how true (eq-eqb message message refl) ∙ or_true (is_named events message)) ∙ and_false _)
 
-  gone_here : (s : ℕ) (msg : Msg) → slice_get sent message ≡ Some msg → server_for (Some msg) ≡ Some server → set.contains (set.remove waiting (server, message)) (s, message) ≡ false
-  gone_here s msg there is = elim (number_or_apart s server) [
+  gone_here : (s : ℕ) → server_for (Some msg) ≡ Some server → set.contains (set.remove waiting (server, message)) (s, message) ≡ false
+  gone_here s is = elim (number_or_apart s server) [
     | inl same ↦ subst (λ n. set.contains (set.remove waiting (server, message)) (n, message) ≡ false) (sym same) (remove_here waiting_total exact_waiting waiting (server, message))
     | inr differ ↦ remove_apart waiting_total exact_waiting waiting (server, message) (s, message) (λ same. differ (ap (λ (p : ℕ × ℕ). p.0) same))
         ∙ await s message ∙ ap (λ o. is_for_server s o && not (is_named events message)) there ∙ ap (λ b. b && not (is_named events message)) (for_server s server msg is ∙ ne_eqb server s (λ e. differ (sym e)))
   ]
 
-  pub await_served : (msg : Msg) (outputs : List Msg) → slice_get sent message ≡ Some msg → server_for (Some msg) ≡ Some server → ((s k : ℕ) → is_for_server s (slice_get outputs k) ≡ false)
-      → Await (set.remove waiting (server, message)) (sent ++ outputs) (events ++ Serve server (message ∷ []) how ∷ [])
-  await_served msg outputs there is none s k = elim (number_or_apart k message) [
-    | inl same ↦ subst (λ n. set.contains (set.remove waiting (server, message)) (s, n) ≡ (is_for_server s (slice_get (sent ++ outputs) n) && not (is_named (events ++ Serve server (message ∷ []) how ∷ []) n))) (sym same)
-        (await_here outputs s _ refl (gone_here s msg there is))
+  pub await_served : server_for (Some msg) ≡ Some server → Await (set.remove waiting (server, message)) sent (events ++ Serve server (message ∷ []) how ∷ [])
+  await_served is s k = elim (number_or_apart k message) [
+    | inl same ↦ subst (λ n. set.contains (set.remove waiting (server, message)) (s, n) ≡ (is_for_server s (slice_get sent n) && not (is_named (events ++ Serve server (message ∷ []) how ∷ []) n))) (sym same)
+        (await_here s (gone_here s is))
     | inr differ ↦ remove_apart waiting_total exact_waiting waiting (server, message) (s, k) (λ same. differ (ap (λ (p : ℕ × ℕ). p.1) same))
         ∙ await s k
-        ∙ sym (ap (λ b. b && not (is_named (events ++ Serve server (message ∷ []) how ∷ []) k)) (sent_for s sent outputs (none s) k)
-        ∙ ap (λ n. is_for_server s (slice_get sent k) && not n) (named_one events server message k how false (ne_eqb message k (λ e. differ (sym e))) ∙ or_false (is_named events k)))
+        ∙ sym (ap (λ n. is_for_server s (slice_get sent k) && not n) (named_one events server message k how false (ne_eqb message k (λ e. differ (sym e))) ∙ or_false (is_named events k)))
   ]
 
-  pub named_served : (msg : Msg) (outputs : List Msg) → slice_get sent message ≡ Some msg → AreNamed (sent ++ outputs) (events ++ Serve server (message ∷ []) how ∷ [])
-  named_served msg outputs there k e =
-      let all = length-append sent outputs in
-      elim (number_or_apart k message) [
-        | inl same ↦ let below = within sent message msg there in omega (arith, below, same, all)
-        | inr differ ↦
-            let below = named k (sym (named_one events server message k how false (ne_eqb message k (λ e. differ (sym e))) ∙ or_false (is_named events k)) ∙ e) in
-            omega (arith, below, all)
-      ]
-
-module _ (waiting : set.FinSet waiting_cmp) (sent : List Msg) (events : List Event) (await : Await waiting sent events) (named : AreNamed sent events) (server message : ℕ) (how : ServeEnd) (msg : Msg) (there : slice_get sent message ≡ Some msg) where
-  pub await_quiet : server_for (Some msg) ≡ Some server → Await (set.remove waiting (server, message)) sent (events ++ Serve server (message ∷ []) how ∷ [])
-  await_quiet is = subst (λ l. Await (set.remove waiting (server, message)) l (events ++ Serve server (message ∷ []) how ∷ [])) (append-nil sent)
-      (await_served waiting sent events await named server message how msg [] there is (λ s k. refl))
-
-  pub named_quiet : AreNamed sent (events ++ Serve server (message ∷ []) how ∷ [])
-  named_quiet = subst (λ l. AreNamed l (events ++ Serve server (message ∷ []) how ∷ [])) (append-nil sent)
-      (named_served waiting sent events await named server message how msg [] there)
+  pub named_served : AreNamed sent (events ++ Serve server (message ∷ []) how ∷ [])
+  named_served k e = elim (number_or_apart k message) [
+    | inl same ↦ let below = within sent message msg there in omega (arith, below, same)
+    | inr differ ↦ named k (sym (named_one events server message k how false (ne_eqb message k (λ e. differ (sym e))) ∙ or_false (is_named events k)) ∙ e)
+  ]
 
 can_serve_up : (state : ServerState) (up : NodeAndRows) → IsUpAs state up → has_numbers up.node ≡ true → can_serve (Some state) ≡ true
 can_serve_up state up u numbers = and_from _ _ u.running (ap (λ (s : NodeAndRows). has_numbers s.node) u.same ∙ numbers)
@@ -169,8 +148,10 @@ module _ {X : Type 0} (seen : X → Contents) (images : X → Image → Type 0) 
         clients = shows.clients;
         going_on = shows.going_on;
         sent = ap (λ l. run.trace.world.sent ++ l) (append-nil given.outputs) ∙ ap (λ l. l ++ given.outputs) shows.sent;
-        named = named_served old.waiting old.sent run.events shows.waiting shows.named server message ends.Done msg given.outputs there;
-        waiting = await_served old.waiting old.sent run.events shows.waiting shows.named server message ends.Done msg given.outputs there meant (λ s k. for_none s (store_of state) msg run.trace.world.now k);
+        named = named_all old.sent (run.events ++ Serve server (message ∷ []) ends.Done ∷ []) (named_served old.waiting old.sent run.events shows.waiting shows.named server message ends.Done msg there) given.outputs;
+        waiting = await_all (set.remove old.waiting (server, message)) old.sent (run.events ++ Serve server (message ∷ []) ends.Done ∷ [])
+            (await_served old.waiting old.sent run.events shows.waiting shows.named server message ends.Done msg there meant)
+            (named_served old.waiting old.sent run.events shows.waiting shows.named server message ends.Done msg there) given.outputs;
         made = serve_makes run.trace.past (store_of state) msg run.trace.world.now (length run.trace.world.sent)
             ∙ ap (λ l. with_one (l ++ changes_of given.records) (lookup_of msg given.outputs (length run.trace.world.sent))) shows.made
             ∙ ap (λ (l : List Msg). with_one (old.made ++ changes_of given.records) (lookup_of msg given.outputs (length l))) shows.sent;
@@ -201,8 +182,8 @@ module _ {X : Type 0} (seen : X → Contents) (images : X → Image → Type 0) 
         clients = shows.clients;
         going_on = shows.going_on;
         sent = shows.sent;
-        named = named_quiet old.waiting old.sent run.events shows.waiting shows.named server message ends.Stop msg there;
-        waiting = await_quiet old.waiting old.sent run.events shows.waiting shows.named server message ends.Stop msg there meant;
+        named = named_served old.waiting old.sent run.events shows.waiting shows.named server message ends.Stop msg there;
+        waiting = await_served old.waiting old.sent run.events shows.waiting shows.named server message ends.Stop msg there meant;
         made = shows.made;
         taken = shows.taken;
       })

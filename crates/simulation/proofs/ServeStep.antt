@@ -25,7 +25,7 @@ use Rattle.simulation.specs.declared.servers.Served.TheVariants as serves
 use Rattle.simulation.specs.Calls.{CanServe, Serves, RepliesTo, IsToServe, IsServe, ServesOn}
 use Rattle.simulation.specs.Entries.{changes_of, lookup_of, with_one, ended_first, ended_by}
 use Rattle.simulation.specs.Payments.{IsPaid, ArePaid, none_at, stops_in_serve, stops_of_serve}
-use Rattle.simulation.specs.Moves.{sent_after, made_after, served_by}
+use Rattle.simulation.specs.Moves.{awaiting_all, sent_after, waiting_after, made_after, served_by}
 use Rattle.simulation.specs.Shows.{SimulationV, Happens, StaysNear, IsServeAt, waiting_cmp, server_for, is_up, has_numbers_at}
 use Rattle.simulation.specs.Stores.{IsServedOn, IsStoppedOn, NearServed}
 use Rattle.simulation.proofs.Payments.{is_paid_quiet, is_paid_stop, quiet_paid, stop_paid}
@@ -61,27 +61,29 @@ module _ {X : Type 0} (seen : X → Contents) (images : X → Image → Type 0) 
   stopped_on did = record { told = told_stays (seen store.disk 1) (seen new.disk 1) told; server = same.0; setup = same.1; at = did.at; doubt = did.doubt }
 
   -- it was done
-  module _ {handled : Handled} (did : HasServed (serve up msg now) new.up handled) (kept : faults new.disk ≡ faults store.disk) (message : ℕ) (sent sent' : List Msg) (made made' : List Made) (there : slice_get sent message ≡ Some msg) where
-    done_as : (served : Served) → sent' ≡ sent ++ handled.outputs → ((m : Msg) → slice_get sent message ≡ Some m → made' ≡ with_one (made ++ changes_of handled.records) (lookup_of m handled.outputs (length sent))) → served ≡ ended_by handled.outputs (length sent)
-        → ServesOn seen images faults store new up msg now sent sent' made made' served
-    done_as serves.Stopped sends makes is = absurd (never_stopped (slice_get handled.outputs 0) (length sent) is)
-    done_as serves.Silent sends makes is = record {
+  module _ {handled : Handled} (did : HasServed (serve up msg now) new.up handled) (kept : faults new.disk ≡ faults store.disk) (message : ℕ) (sent sent' : List Msg) (waiting waiting' : set.FinSet waiting_cmp) (made made' : List Made) (there : slice_get sent message ≡ Some msg) where
+    done_as : (served : Served) → sent' ≡ sent ++ handled.outputs → waiting' ≡ awaiting_all waiting handled.outputs (length sent) → ((m : Msg) → slice_get sent message ≡ Some m → made' ≡ with_one (made ++ changes_of handled.records) (lookup_of m handled.outputs (length sent))) → served ≡ ended_by handled.outputs (length sent)
+        → ServesOn seen images faults store new up msg now sent sent' waiting waiting' made made' served
+    done_as serves.Stopped sends waits makes is = absurd (never_stopped (slice_get handled.outputs 0) (length sent) is)
+    done_as serves.Silent sends waits makes is = record {
       leaves = (served_on did, kept);
       tells = is ∙ ap (λ o. ended_by o (length sent)) did.outputs;
       sends = sends ∙ ap (λ o. sent ++ o) did.outputs;
+      waits = waits ∙ ap (λ o. awaiting_all waiting o (length sent)) did.outputs;
       makes = makes msg there ∙ ap (λ r. with_one (made ++ changes_of r) (lookup_of msg handled.outputs (length sent))) did.records ∙ ap (λ o. with_one (made ++ changes_of (serve up msg now).records) (lookup_of msg o (length sent))) did.outputs;
     }
-    done_as (serves.Answered first) sends makes is = record {
+    done_as (serves.Answered first) sends waits makes is = record {
       leaves = (served_on did, kept);
       tells = is ∙ ap (λ o. ended_by o (length sent)) did.outputs;
       sends = sends ∙ ap (λ o. sent ++ o) did.outputs;
+      waits = waits ∙ ap (λ o. awaiting_all waiting o (length sent)) did.outputs;
       makes = makes msg there ∙ ap (λ r. with_one (made ++ changes_of r) (lookup_of msg handled.outputs (length sent))) did.records ∙ ap (λ o. with_one (made ++ changes_of (serve up msg now).records) (lookup_of msg o (length sent))) did.outputs;
     }
 
-    pub done_on : (result : Result Served AllocError) → OnOk result (sent' ≡ sent ++ handled.outputs) → OnOk result ((m : Msg) → slice_get sent message ≡ Some m → made' ≡ with_one (made ++ changes_of handled.records) (lookup_of m handled.outputs (length sent)))
-        → IfOk result (λ served. served ≡ ended_by handled.outputs (length sent)) → IfOk result (ServesOn seen images faults store new up msg now sent sent' made made')
-    done_on (Ok served) sends makes is = done_as served sends makes is
-    done_on (Err e) sends makes is = tt
+    pub done_on : (result : Result Served AllocError) → OnOk result (sent' ≡ sent ++ handled.outputs) → OnOk result (waiting' ≡ awaiting_all waiting handled.outputs (length sent)) → OnOk result ((m : Msg) → slice_get sent message ≡ Some m → made' ≡ with_one (made ++ changes_of handled.records) (lookup_of m handled.outputs (length sent)))
+        → IfOk result (λ served. served ≡ ended_by handled.outputs (length sent)) → IfOk result (ServesOn seen images faults store new up msg now sent sent' waiting waiting' made made')
+    done_on (Ok served) sends waits makes is = done_as served sends waits makes is
+    done_on (Err e) sends waits makes is = tt
 
   pub undone_on : {handled : Handled} → HasServed (serve up msg now) new.up handled → (result : Result Served AllocError) → OnErr result (NearServed seen images store new up (serve up msg now))
   undone_on did (Ok served) = tt
@@ -93,10 +95,10 @@ module _ {X : Type 0} (seen : X → Contents) (images : X → Image → Type 0) 
   near_on (inr did) = inr (inr (stopped_on did))
 
   -- its device stopped it: a server that went down did not stay as it was
-  pub down_on : (sent : List Msg) (made : List Made) → (new ≡ store) ⊎ HasStopped seen images new up (serve up msg now).records → store.up ≡ Some up → new.up ≡ None → Rose (faults store.disk) (faults new.disk)
-      → ServesOn seen images faults store new up msg now sent sent made made serves.Stopped
-  down_on sent made (inl same') is down rose = let e = ap (λ (s : Store X). s.up) same' in cc
-  down_on sent made (inr did) is down rose = record { leaves = (stopped_on did, rose); tells = tt; sends = refl; makes = refl }
+  pub down_on : (sent : List Msg) (waiting : set.FinSet waiting_cmp) (made : List Made) → (new ≡ store) ⊎ HasStopped seen images new up (serve up msg now).records → store.up ≡ Some up → new.up ≡ None → Rose (faults store.disk) (faults new.disk)
+      → ServesOn seen images faults store new up msg now sent sent waiting waiting made made serves.Stopped
+  down_on sent waiting made (inl same') is down rose = let e = ap (λ (s : Store X). s.up) same' in cc
+  down_on sent waiting made (inr did) is down rose = record { leaves = (stopped_on did, rose); tells = tt; sends = refl; waits = refl; makes = refl }
 
 -- what pays for it
 
@@ -148,10 +150,10 @@ module _ {X : Type 0} {was old : SimulationV X} (same : was ≡ old) {server mes
   meant_for other meant = same_Some server other (sym s.to.meant ∙ ap server_for (sym s.to.there) ∙ ap (λ (v : SimulationV X). server_for (slice_get v.sent message)) same ∙ meant)
 
   -- the function that it is, by the parts
-  pub serve_after : (seen : X → Contents) (images : X → Image → Type 0) (faults : X → ℕ) (new : Store X) (served : Served) (sent' : List Msg) (made' : List Made) (waiting' : set.FinSet waiting_cmp)
-      → ServesOn seen images faults store new s.up s.msg was.moment was.sent sent' was.made made' served → waiting' ≡ set.remove was.waiting (server, message)
+  pub serve_after : (seen : X → Contents) (images : X → Image → Type 0) (faults : X → ℕ) (new : Store X) (served : Served) (sent' : List Msg) (made' : List Made) (left waiting' : set.FinSet waiting_cmp)
+      → ServesOn seen images faults store new s.up s.msg was.moment was.sent sent' left waiting' was.made made' served → left ≡ set.remove was.waiting (server, message)
       → (other : ℕ) → server_for (slice_get old.sent message) ≡ Some other → IsServe seen images faults old (with_served was (slice_set was.stores server new) sent' made' waiting') other message served
-  serve_after seen images faults new served sent' made' waiting' on waits other meant =
+  serve_after seen images faults new served sent' made' left waiting' on removed other meant =
       let given = serve s.up s.msg was.moment in
       let stores = slice_set was.stores server new in
       subst (λ k. IsServe seen images faults old (with_served was (slice_set was.stores server new) sent' made' waiting') k message served) (meant_for other meant)
@@ -164,7 +166,8 @@ module _ {X : Type 0} {was old : SimulationV X} (same : was ≡ old) {server mes
         leaves = on.leaves;
         tells = on.tells;
         after = ap (λ l. with_served was stores l made' waiting') on.sends ∙ ap (λ l. with_served was stores (sent_after was.sent given served) l waiting') on.makes
-            ∙ ap (with_served was stores (sent_after was.sent given served) (made_after was.made s.msg given (length was.sent) served)) waits;
+            ∙ ap (with_served was stores (sent_after was.sent given served) (made_after was.made s.msg given (length was.sent) served))
+            (on.waits ∙ ap (λ w. waiting_after w given (length was.sent) served) removed);
       }))
 
   -- it changes this server alone

@@ -21,7 +21,7 @@ use Rattle.simulation.specs.declared.servers.Served.TheVariants as serves
 use Rattle.simulation.specs.declared.servers.Restarted.{Restarted}
 use Rattle.simulation.specs.declared.servers.Restarted.TheVariants as restarts
 use Rattle.simulation.specs.Entries.{ended_by}
-use Rattle.simulation.specs.Moves.{awaiting, sent_after, made_after, served_by, restarted_by}
+use Rattle.simulation.specs.Moves.{awaiting, sent_after, waiting_after, made_after, served_by, restarted_by}
 use Rattle.simulation.specs.Runs.{RunV, GoesOn}
 use Rattle.simulation.specs.Shows.{SimulationV, Shows, Happens, waiting_cmp, server_for, is_up, has_numbers_at}
 use Rattle.simulation.specs.Shows.{is_request_of}
@@ -115,11 +115,12 @@ pub record IsServe {X : Type 0} (seen : X → Contents) (images : X → Image �
 
 -- the parts that such a Serve changes
 pub record ServesOn {X : Type 0} (seen : X → Contents) (images : X → Image → Type 0) (faults : X → ℕ)
-    (old new : Store X) (up : NodeAndRows) (msg : Msg) (now : ℕ) (sent sent' : List Msg) (made made' : List Made)
-    (served : Served) : Type 0 where
+    (old new : Store X) (up : NodeAndRows) (msg : Msg) (now : ℕ) (sent sent' : List Msg)
+    (waiting waiting' : set.FinSet waiting_cmp) (made made' : List Made) (served : Served) : Type 0 where
   pub leaves : EndsOn seen images faults old new up (serve up msg now) served
   pub tells : TellsOf (serve up msg now).outputs (length sent) served
   pub sends : sent' ≡ sent_after sent (serve up msg now) served
+  pub waits : waiting' ≡ waiting_after waiting (serve up msg now) (length sent) served
   pub makes : made' ≡ made_after made msg (serve up msg now) (length sent) served
 
 -- a run may have an event more, and a restart ended so: with the server's new store the simulation is what that makes

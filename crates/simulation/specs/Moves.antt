@@ -37,6 +37,12 @@ abbrev pub awaiting : set.FinSet waiting_cmp → Option ℕ → ℕ → set.FinS
 awaiting waiting None message = waiting
 awaiting waiting (Some server) message = set.insert waiting (server, message)
 
+-- the messages that wait once these were sent, to stand from this place on
+abbrev pub awaiting_all : set.FinSet waiting_cmp → List Msg → ℕ → set.FinSet waiting_cmp
+awaiting_all waiting [] place = waiting
+awaiting_all waiting (msg ∷ msgs) place =
+    awaiting_all (awaiting waiting (server_for (Some msg)) place) msgs (place + 1)
+
 -- the client of a number is this one now, and sent a message: it stands at the end, and waits there for its server
 abbrev pub sent_by : {X : Type 0} → SimulationV X → ℕ → ClientV → Msg → SimulationV X
 sent_by sim number client msg =
@@ -94,10 +100,15 @@ taken_by sim number message = taken_as sim number message (client_at sim.clients
 abbrev pub halted_by : {X : Type 0} → SimulationV X → ℕ → Store X → SimulationV X
 halted_by sim server store = record sim { count = sim.count + 1; stores = slice_set sim.stores server store }
 
--- the messages, and the entries, once a Serve ended so that gives this; the messages stood up to this place before
+-- the messages, those that wait, and the entries, once a Serve ended so that gives this; the messages stood up to this
+-- place before
 abbrev pub sent_after : List Msg → ServedV → Served → List Msg
 sent_after sent given serves.Stopped = sent
 sent_after sent given served = sent ++ given.outputs
+
+abbrev pub waiting_after : set.FinSet waiting_cmp → ServedV → ℕ → Served → set.FinSet waiting_cmp
+waiting_after waiting given place serves.Stopped = waiting
+waiting_after waiting given place served = awaiting_all waiting given.outputs place
 
 abbrev pub made_after : List Made → Msg → ServedV → ℕ → Served → List Made
 made_after made msg given message serves.Stopped = made
@@ -111,7 +122,7 @@ served_by sim server message store msg given served =
       count = sim.count + 1;
       stores = slice_set sim.stores server store;
       sent = sent_after sim.sent given served;
-      waiting = set.remove sim.waiting (server, message);
+      waiting = waiting_after (set.remove sim.waiting (server, message)) given (length sim.sent) served;
       made = made_after sim.made msg given (length sim.sent) served;
     }
 

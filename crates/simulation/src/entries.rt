@@ -5,17 +5,22 @@ ghost use Rattle.std.specs.List.{slice_get};
 ghost use Rattle.records.specs.declared.msg.Msg.{Msg};
 ghost use Rattle.simulation.specs.Entries.{change_of, changes_of, ended_by, lookup_of, only_of, with_one};
 ghost use Rattle.simulation.specs.Entries.{is_lookup, is_lookup_call};
+ghost use Rattle.simulation.specs.Moves.{awaiting_all};
 
 use crate::servers::Served;
+use crate::waiting::await_all;
+use crate::waits::Waits;
 use mds_base::Call;
 use message_store::MessageStore;
 use records::{Handled, Msg, MsgList, Record, RecordList};
 use std::alloc::{AllocError, Global};
 
-/// Sends what a Serve of the message handed out, and makes its entries; or nothing.
+/// Sends what a Serve of the message handed out, which waits for its servers, and makes its entries; or sends and makes
+/// nothing.
 pub(crate) fn hand_out(
     alloc: Global,
     messages: &mut MessageStore,
+    waiting: &mut Waits,
     message: u64,
     handled: Handled,
 ) -> Result<Served, AllocError>
@@ -26,6 +31,8 @@ pub(crate) fn hand_out(
         → messages.new.made
         ≡ with_one (messages.old.made ++ changes_of handled.records)
         (lookup_of msg handled.outputs (length messages.old.sent))) }
+    ensures waits { OnOk result
+        (waiting.new ≡ awaiting_all waiting.old handled.outputs (length messages.old.sent)) }
     ensures served { IfOk result (λ served. served ≡ ended_by handled.outputs (length messages.old.sent)) }
     ensures err { OnErr result (messages.new ≡ messages.old) }
 {
@@ -36,6 +43,7 @@ pub(crate) fn hand_out(
         mut outputs,
     } = handled;
     let served = ended(&outputs, first);
+    await_all(waiting, &outputs, first)?;
     add_changes(alloc, messages, &records, message)?;
     if send_outputs(alloc, messages, message, &mut outputs).is_err() {
         messages.cut_made(made);

@@ -82,14 +82,16 @@ impl<D: Disk> Simulation<D> {
         let Some(server) = self.server_for(message) else {
             unreachable!();
         };
+        // It is taken out first: what the Serve sends then mostly waits alone, and finds its place without memory.
+        no_longer_waits(&mut self.waiting, server, message);
         let served = serve_on(
             alloc,
             &mut self.stores[server as usize],
             &mut self.messages,
+            &mut self.waiting,
             message,
             self.moment,
         )?;
-        no_longer_waits(&mut self.waiting, server, message);
         self.count += 1;
         Ok(served)
     }
@@ -159,11 +161,12 @@ fn no_longer_waits(waiting: &mut Waits, server: u32, message: u64)
     waiting.remove(server, message);
 }
 
-// Has a server serve the message, sends what it hands out, and makes its entries.
+// Has a server serve the message, sends what it hands out, which waits for its servers, and makes its entries.
 fn serve_on<D: Disk>(
     alloc: Global,
     store: &mut NodeStore<Fuse<D>>,
     messages: &mut MessageStore,
+    waiting: &mut Waits,
     message: u64,
     moment: u64,
 ) -> Result<Served, AllocError>
@@ -173,7 +176,7 @@ fn serve_on<D: Disk>(
     ensures ok { (up : NodeAndRows) → (msg : Msg) → store.old.up ≡ Some up
         → slice_get messages.old.sent message ≡ Some msg
         → IfOk result (ServesOn (seen_by D.seen) (images_by D.images) (fused_faults D.faults) store.old store.new up msg
-        moment messages.old.sent messages.new.sent messages.old.made messages.new.made) }
+        moment messages.old.sent messages.new.sent waiting.old waiting.new messages.old.made messages.new.made) }
     ensures err { (up : NodeAndRows) → (msg : Msg) → store.old.up ≡ Some up
         → slice_get messages.old.sent message ≡ Some msg
         → OnErr result (NearServed (seen_by D.seen) (images_by D.images) store.old store.new up (serve up msg moment)) }
@@ -182,7 +185,7 @@ fn serve_on<D: Disk>(
     ensures same { (store.new.server ≡ store.old.server) × (store.new.setup ≡ store.old.setup) }
 {
     match handle(alloc, store, messages, message, moment) {
-        Ok(handled) => hand_out(alloc, messages, message, handled),
+        Ok(handled) => hand_out(alloc, messages, waiting, message, handled),
         Err(fault) => match fault {
             StoreFault::Device => Ok(Served::Stopped),
             _ => Err(AllocError),

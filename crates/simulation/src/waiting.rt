@@ -1,13 +1,13 @@
 //! The messages that no Serve named yet.
-ghost use Rattle.std.specs.Prelude.{◌≡◌, ◌<◌, true, length, OnOk, OnErr, Some};
+ghost use Rattle.std.specs.Prelude.{◌≡◌, ◌+◌, ◌<◌, ◌^◌, true, length, OnOk, OnErr, Some};
 ghost use Rattle.std.specs.FinSet as set;
-ghost use Rattle.simulation.specs.Moves.{awaiting};
+ghost use Rattle.simulation.specs.Moves.{awaiting, awaiting_all};
 ghost use Rattle.simulation.specs.Shows.{IsDue, IsFirst, due_one, is_up, server_for};
 
 use crate::simulation::Simulation;
 use crate::waits::{Few, Waits, earlier};
 use mds_out::Disk;
-use records::Msg;
+use records::{Msg, MsgList};
 use std::alloc::AllocError;
 
 impl<D: Disk> Simulation<D> {
@@ -70,6 +70,19 @@ pub(crate) fn await_server(waiting: &mut Waits, msg: &Msg, message: u64) -> Resu
 {
     if let Some(server) = msg.server() {
         waiting.insert(server, message)?;
+    }
+    Ok(())
+}
+
+/// Has each message of a list wait for its server, where it is for one; the first one has this number.
+pub(crate) fn await_all(waiting: &mut Waits, msgs: &MsgList, first: u64) -> Result<(), AllocError>
+    requires { first + length msgs.now < 2 ^ 64 }
+    ensures { OnOk result (waiting.new ≡ awaiting_all waiting.old msgs.now first) }
+{
+    let mut message = first;
+    for msg in msgs.messages() {
+        await_server(waiting, msg, message)?;
+        message += 1;
     }
     Ok(())
 }

@@ -11,8 +11,8 @@ hand_out-requires g c = within c.args.messages.now.sent c.args.message c.require
 
 pub returns-in-Ok-clause-ok : goal.returns-in-Ok-clause-ok
 returns-in-Ok-clause-ok g c = λ up msg is there.
-    done_on (seen_by g.D.Disk.seen) (images_by g.D.Disk.images) (fused_faults g.D.Disk.faults) c.args.store.now c.handle.new.store c.handle.ensures.told c.handle.ensures.same up msg c.args.moment (c.in-Ok.ensures.served msg up there is) c.in-Ok.ensures.call.cause.kept c.args.message c.args.messages.now.sent c.hand_out.new.messages.sent c.args.messages.now.made c.hand_out.new.messages.made there
-    c.hand_out.result c.hand_out.ensures.sent c.hand_out.ensures.made c.hand_out.ensures.served
+    done_on (seen_by g.D.Disk.seen) (images_by g.D.Disk.images) (fused_faults g.D.Disk.faults) c.args.store.now c.handle.new.store c.handle.ensures.told c.handle.ensures.same up msg c.args.moment (c.in-Ok.ensures.served msg up there is) c.in-Ok.ensures.call.cause.kept c.args.message c.args.messages.now.sent c.hand_out.new.messages.sent c.args.waiting.now c.hand_out.new.waiting c.args.messages.now.made c.hand_out.new.messages.made there
+    c.hand_out.result c.hand_out.ensures.sent c.hand_out.ensures.waits c.hand_out.ensures.made c.hand_out.ensures.served
 
 pub returns-in-Ok-clause-err : goal.returns-in-Ok-clause-err
 returns-in-Ok-clause-err g c = λ up msg is there.
@@ -25,7 +25,7 @@ returns-in-Ok-clause-paid g c =
 pub returns-in-Device-clause-ok : goal.returns-in-Device-clause-ok
 returns-in-Device-clause-ok g c = λ up msg is there.
     let device = c.in-Err.is ∙ ap Err c.in-Device.is in
-    down_on (seen_by g.D.Disk.seen) (images_by g.D.Disk.images) (fused_faults g.D.Disk.faults) c.args.store.now c.handle.new.store c.handle.ensures.told c.handle.ensures.same up msg c.args.moment c.args.messages.now.sent c.args.messages.now.made (c.in-Err.ensures.refused msg up there is) is
+    down_on (seen_by g.D.Disk.seen) (images_by g.D.Disk.images) (fused_faults g.D.Disk.faults) c.args.store.now c.handle.new.store c.handle.ensures.told c.handle.ensures.same up msg c.args.moment c.args.messages.now.sent c.args.waiting.now c.args.messages.now.made (c.in-Err.ensures.refused msg up there is) is
     (c.handle.ensures.down device) (c.handle.ensures.call.cause.device device)
 
 pub returns-in-Device-clause-paid : goal.returns-in-Device-clause-paid

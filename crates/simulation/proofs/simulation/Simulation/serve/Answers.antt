@@ -47,7 +47,7 @@ invariant_of-self-2 g c =
 pub returns-clause-after : goal.returns-clause-after
 returns-clause-after g c =
     let s = serving c.self.view_is c.requires.room c.args.message c.in-Some.server c.index_mut.result.now c.requires.message c.in-Some.ensures.value c.index_mut.ensures.value in
-    serve_after c.self.view_is s (seen_by g.D.Disk.seen) (images_by g.D.Disk.images) (fused_faults g.D.Disk.faults) c.serve_on.new.store c.in_ok-served.served c.serve_on.new.messages.sent c.serve_on.new.messages.made _ (c.in_ok-served.ensures.ok s.up s.msg s.to.up' s.to.there) c.no_longer_waits.ensures
+    serve_after c.self.view_is s (seen_by g.D.Disk.seen) (images_by g.D.Disk.images) (fused_faults g.D.Disk.faults) c.serve_on.new.store c.in_ok-served.served c.serve_on.new.messages.sent c.serve_on.new.messages.made _ _ (c.in_ok-served.ensures.ok s.up s.msg s.to.up' s.to.there) c.no_longer_waits.ensures
 
 pub returns-clause-ok : goal.returns-clause-ok
 returns-clause-ok g c = λ other meant. serves_of (seen_by g.D.Disk.seen) (images_by g.D.Disk.images) (fused_faults g.D.Disk.faults) c.in_ok-served.served (returns-clause-after g c other meant)
