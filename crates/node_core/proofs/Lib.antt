@@ -10,3 +10,5 @@ pub mod Replayed
 pub mod ReplayLaw
 pub mod OnTerms
 pub mod Durably
+pub mod ToldRecords
+pub mod ToldOutputs

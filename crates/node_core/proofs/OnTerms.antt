@@ -10,7 +10,7 @@ use Rattle.records.specs.declared.record.Record.{Record}
 use Rattle.records.specs.declared.record.Record.TheVariants.{Head, Opened, Served}
 use Rattle.sessions.specs.Kept.{judge_kept}
 use Rattle.node_core.specs.Nodes.{NodeV, NodeAndRows, part_for, owns, server_for, session_in, row_in, noted_in, rows_after, has_numbers, is_new}
-use Rattle.node_core.specs.Rules.{Asked, ChangeOf, LookOf, NotServed, asked_of, said_of, said_in, Silent, Looks, by_judged, outcome_of}
+use Rattle.node_core.specs.Rules.{Asked, ChangeOf, LookOf, NotServed, asked_of, said_of, said_in, Silent, Looks, by_judged, outcome, outcome_of}
 use Rattle.node_core.specs.Serving.{ask_of, carries, carried_at, may_follow, part_at, replayed, replayed_as, replayed_all}
 use Rattle.node_core.specs.Terms.{SharesHead, node_on, store_on, ReplaysOn, ReplaysOnAllTerms}
 
@@ -70,6 +70,7 @@ module _ (store : NodeAndRows) (terms : Setup) where
     carries_on ask said NotServed = refl
 
     follows_on : (client seq part : ℕ) (call : Call) (said : Final) → may_follow (store_on terms store) (Served client seq part call said) ≡ may_follow store (Served client seq part call said)
+    unfolding outcome
     follows_on client seq part call said =
         ap (λ b. has_numbers store.node && (b && (part == part_at (store_on terms store) (asked_of call)))) (carries_on (ask_of client seq call) said (asked_of call))
         ∙ ap (λ p. has_numbers store.node && (carries (outcome_of store (ask_of client seq call) 0 (asked_of call)) said && (part == p))) (part_on (asked_of call))

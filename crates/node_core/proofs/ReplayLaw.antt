@@ -29,6 +29,7 @@ carried_again store ask now said (LookOf dir name) asked is numbers = absurd (no
 carried_again store ask now said NotServed asked is numbers = cc
 
 served_again : (store : NodeAndRows) (ask : Ask) (now : ℕ) (o : Outcome) → outcome store ask now ≡ o → has_numbers store.node ≡ true → replayed_all store (served_as store ask o).records ≡ (served_as store ask o).store
+unfolding outcome
 served_again store ask now Silent is numbers = refl
 served_again store ask now (Looks reply) is numbers = refl
 served_again store ask now (Repeats said) is numbers = refl
@@ -39,4 +40,5 @@ request_again store None now numbers = refl
 request_again store (Some ask) now numbers = served_again store ask now (outcome store ask now) refl numbers
 
 pub replay_law : (store : NodeAndRows) (msg : Msg) (now : ℕ) → has_numbers store.node ≡ true → replayed_all store (serve store msg now).records ≡ (serve store msg now).store
+unfolding serve
 replay_law store msg now numbers = request_again store (request_in msg) now numbers

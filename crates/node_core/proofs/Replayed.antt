@@ -45,9 +45,11 @@ no_follow store client seq part call said never e =
     let t = c.0 in cc
 
 pub not_change : (store : NodeAndRows) (client seq part : ℕ) (call : Call) (said : Final) → asked_of call ≡ NotServed → IsReplayed store (Served client seq part call said) store.node store.rows false
+unfolding outcome
 not_change store client seq part call said asked = stays store client seq part call said (no_follow store client seq part call said (no_carries store client seq call said Silent (ap (outcome_of store (ask_of client seq call) 0) asked) refl))
 
 pub not_look : (store : NodeAndRows) (client seq part : ℕ) (call : Call) (said : Final) (dir : ℕ) (name : List ℕ) → asked_of call ≡ LookOf dir name → IsReplayed store (Served client seq part call said) store.node store.rows false
+unfolding outcome
 not_look store client seq part call said dir name asked =
     stays store client seq part call said (no_follow store client seq part call said
     (ap (λ x. carries (outcome_of store (ask_of client seq call) 0 x) said) asked ∙ look_carries (owns store.node dir (part_for store.node dir name)) _ said))
@@ -64,6 +66,7 @@ owned_of false j own said e = cc
 
 pub follows_means : (store : NodeAndRows) (client seq part : ℕ) (call : Call) (said : Final) (dir : ℕ) (name : List ℕ) → asked_of call ≡ ChangeOf dir name → may_follow store (Served client seq part call said) ≡ true
     → (may_carry store.node dir name client seq part ≡ true) × (said ≡ said_in store call dir name)
+unfolding outcome
 follows_means store client seq part call said dir name asked e =
     let own = part_for store.node dir name in
     let h = and_parts (has_numbers store.node) _ e in
@@ -94,6 +97,7 @@ carry_means node dir name client seq part e =
 -- a change that may follow is carried out
 pub follows_so : (store : NodeAndRows) (client seq part : ℕ) (call : Call) (said : Final) (dir : ℕ) (name : List ℕ) → asked_of call ≡ ChangeOf dir name → may_carry store.node dir name client seq part ≡ true → said ≡ said_in store call dir name
     → (may_follow store (Served client seq part call said) ≡ true) × (replayed store (Served client seq part call said) ≡ carried store client seq call dir name)
+unfolding outcome
 follows_so store client seq part call said dir name asked may said' =
     let own = part_for store.node dir name in
     let m = carry_means store.node dir name client seq part may in

@@ -21,7 +21,7 @@ use Rattle.partition.specs.Rows.{written, edits_of}
 use Rattle.node_core.specs.declared.change.Change.{Change}
 use Rattle.node_core.specs.Nodes.{NodeAndRows, part_for, owns, session_in, row_in, rows_after, noted_in, edit_in, count_after}
 use Rattle.name_hash.specs.RowPlace.{row_key}
-use Rattle.node_core.specs.Rules.{ChangeOf, LookOf, NotServed, asked_of, said_of, said_in, found, Silent, Looks, by_judged, outcome_of}
+use Rattle.node_core.specs.Rules.{ChangeOf, LookOf, NotServed, asked_of, said_of, said_in, found, Silent, Looks, by_judged, outcome, outcome_of}
 use Rattle.node_core.specs.Serving.{ServedV, served_as, serve_ask, answer_to, carried, carried_at, part_at}
 use Rattle.node_core.specs.Edits.{node_noted, parts_noted, numbers_of, CanBeMade}
 use Rattle.node_core.proofs.Calls.{each_change}
@@ -31,23 +31,27 @@ nothing store = record { store = store; records = []; outputs = [] }
 
 module _ (store : NodeAndRows) (ask : Ask) (now dir : ℕ) (name : List ℕ) where
   pub change_away : asked_of ask.call ≡ ChangeOf dir name → owns store.node dir (part_for store.node dir name) ≡ false → serve_ask store ask now ≡ nothing store
+  unfolding outcome
   change_away asked away =
       ap (λ a. served_as store ask (outcome_of store ask now a)) asked
       ∙ ap (λ b. served_as store ask (cond b (by_judged (judge_kept (session_in store.node dir (part_for store.node dir name) ask.client) ask.seq) (said_in store ask.call dir name)) Silent)) away
 
   pub look_away : asked_of ask.call ≡ LookOf dir name → owns store.node dir (part_for store.node dir name) ≡ false → serve_ask store ask now ≡ nothing store
+  unfolding outcome
   look_away asked away =
       ap (λ a. served_as store ask (outcome_of store ask now a)) asked
       ∙ ap (λ b. served_as store ask (cond b (Looks (found (row_in store.rows dir (part_for store.node dir name) name) (now + store.node.setup.lease))) Silent)) away
 
   pub look_own : asked_of ask.call ≡ LookOf dir name → owns store.node dir (part_for store.node dir name) ≡ true
       → serve_ask store ask now ≡ record { store = store; records = []; outputs = answer_to ask (found (row_in store.rows dir (part_for store.node dir name) name) (now + store.node.setup.lease)) ∷ [] }
+  unfolding outcome
   look_own asked own =
       ap (λ a. served_as store ask (outcome_of store ask now a)) asked
       ∙ ap (λ b. served_as store ask (cond b (Looks (found (row_in store.rows dir (part_for store.node dir name) name) (now + store.node.setup.lease))) Silent)) own
 
   pub change_judged : asked_of ask.call ≡ ChangeOf dir name → owns store.node dir (part_for store.node dir name) ≡ true → (j : Judged) → judge_kept (session_in store.node dir (part_for store.node dir name) ask.client) ask.seq ≡ j
       → serve_ask store ask now ≡ served_as store ask (by_judged j (said_in store ask.call dir name))
+  unfolding outcome
   change_judged asked own j judged =
       ap (λ a. served_as store ask (outcome_of store ask now a)) asked
       ∙ ap (λ b. served_as store ask (cond b (by_judged (judge_kept (session_in store.node dir (part_for store.node dir name) ask.client) ask.seq) (said_in store ask.call dir name)) Silent)) own
@@ -68,6 +72,7 @@ module _ (store : NodeAndRows) (ask : Ask) (now dir : ℕ) (name : List ℕ) whe
       }) asked
 
 pub not_served : (store : NodeAndRows) (ask : Ask) (now : ℕ) → asked_of ask.call ≡ NotServed → serve_ask store ask now ≡ nothing store
+unfolding outcome
 not_served store ask now asked = ap (λ a. served_as store ask (outcome_of store ask now a)) asked
 
 removed_numbers : (d : ℕ) (n : List ℕ) (b : Bool) → numbers_of (cond b Removed IsDir) ≡ length (plain.given_by (Remove d n) (Said (cond b Removed IsDir)))

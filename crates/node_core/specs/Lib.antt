@@ -2,6 +2,7 @@ pub mod Nodes
 pub mod Rules
 pub mod Serving
 pub mod Ranges
+pub mod Messages
 pub mod Edits
 pub mod Planning
 pub mod Durable

@@ -102,5 +102,5 @@ outcome_of store ask now (LookOf dir name) =
     else Silent
 outcome_of store ask now NotServed = Silent
 
-abbrev pub outcome : NodeAndRows → Ask → ℕ → Outcome
+unfoldable pub outcome : NodeAndRows → Ask → ℕ → Outcome
 outcome store ask now = outcome_of store ask now (asked_of ask.call)

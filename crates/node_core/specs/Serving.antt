@@ -65,12 +65,13 @@ served_as store ask (Carries said) =
 abbrev pub serve_ask : NodeAndRows → Ask → ℕ → ServedV
 serve_ask store ask now = served_as store ask (outcome store ask now)
 
--- serving a message; what is no request changes nothing and sends nothing, since nothing splits yet
+-- serving a message; what is no request changes nothing and sends nothing, since nothing splits yet; what is known of it
+-- for every store is in `proofs/ToldRecords.antt` and `proofs/ToldOutputs.antt`, and the crates above go by that
 abbrev pub serve_request : NodeAndRows → Option Ask → ℕ → ServedV
 serve_request store None now = record { store = store; records = []; outputs = [] }
 serve_request store (Some ask) now = serve_ask store ask now
 
-abbrev pub serve : NodeAndRows → Msg → ℕ → ServedV
+unfoldable pub serve : NodeAndRows → Msg → ℕ → ServedV
 serve store msg now = serve_request store (request_in msg) now
 
 -- serving several messages, one after another
@@ -141,6 +142,11 @@ replayed store item = replayed_as store item (may_follow store item)
 abbrev pub replayed_all : NodeAndRows → List Record → NodeAndRows
 replayed_all store [] = store
 replayed_all store (item ∷ items) = replayed_all (replayed store item) items
+
+-- each record may follow where those before it lead
+abbrev pub all_follow : NodeAndRows → List Record → Bool
+all_follow store [] = true
+all_follow store (item ∷ items) = may_follow store item && all_follow (replayed store item) items
 
 -- the store once its server was restarted: there are no leases yet, so a restart sets nothing
 abbrev pub restarted : NodeAndRows → ℕ → NodeAndRows
