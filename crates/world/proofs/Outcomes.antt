@@ -25,6 +25,8 @@ pub record LooksTrue (store : NodeAndRows) (ask : Ask) (now : ℕ) (reply : Repl
 
 pub record RepeatsTrue (store : NodeAndRows) (ask : Ask) (said : Final) : Type 0 where
   pub dir : ℕ
+  pub name : List ℕ
+  pub asked : asked_of ask.call ≡ ChangeOf dir name
   pub part : ℕ
   pub owner : owns store.node dir part ≡ true
   pub kept : Kept
@@ -51,7 +53,7 @@ judged_true : (store : NodeAndRows) (ask : Ask) (now dir : ℕ) (name : List ℕ
 judged_true store ask now dir name asked owner New e = record { dir = dir; name = name; asked = asked; owner = owner; newer = e; said' = refl }
 judged_true store ask now dir name asked owner (Again said) e =
     let h = judged_again (session_in store.node dir (part_for store.node dir name) ask.client) ask.seq said e in
-    record { dir = dir; part = part_for store.node dir name; owner = owner; kept = h.0; session = h.1; seq = h.2; said' = h.3 }
+    record { dir = dir; name = name; asked = asked; part = part_for store.node dir name; owner = owner; kept = h.0; session = h.1; seq = h.2; said' = h.3 }
 judged_true store ask now dir name asked owner (Old kept) e = tt
 
 change_true : (store : NodeAndRows) (ask : Ask) (now dir : ℕ) (name : List ℕ) → asked_of ask.call ≡ ChangeOf dir name → (b : Bool) → owns store.node dir (part_for store.node dir name) ≡ b
@@ -70,6 +72,7 @@ outcome_at store ask now (LookOf dir name) e = look_true store ask now dir name 
 outcome_at store ask now NotServed e = tt
 
 pub outcome_true : (store : NodeAndRows) (ask : Ask) (now : ℕ) → OutcomeTrue store ask now (outcome store ask now)
+unfolding outcome
 outcome_true store ask now = outcome_at store ask now (asked_of ask.call) refl
 
 pub owner_of : (store : NodeAndRows) (dir part servers s : ℕ) → owns store.node dir part ≡ true → store.node.setup.servers ≡ servers → store.node.server ≡ s → server_for servers dir part ≡ s
@@ -84,6 +87,7 @@ owns_of store dir part servers s owner e f = eq-eqb (server_for store.node.setup
 pub may_follow_true : (store : NodeAndRows) (client seq part : ℕ) (call : Call) (said : Final) (dir : ℕ) (name : List ℕ) → asked_of call ≡ ChangeOf dir name → owns store.node dir (part_for store.node dir name) ≡ true
     → judge_kept (session_in store.node dir (part_for store.node dir name) client) seq ≡ New → has_numbers store.node ≡ true → said ≡ said_in store call dir name → part ≡ part_for store.node dir name
     → may_follow store (Served client seq part call said) ≡ true
+unfolding outcome
 may_follow_true store client seq part call said dir name asked owner newer numbers is_said is_part =
     let carried : outcome store (ask_of client seq call) 0 ≡ Carries said =
     ap (outcome_of store (ask_of client seq call) 0) asked

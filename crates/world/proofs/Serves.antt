@@ -71,7 +71,7 @@ module _ (count : ℕ) (sent : List Msg) (s : ℕ) (store : NodeAndRows) (own : 
 abbrev done_as : Trace → ℕ → ServerState → Ask → Outcome → Trace
 done_as t s state ask o = record {
   world = say (set_server t.world s (with_store state (served_as (store_of state) ask o).store)) (served_as (store_of state) ask o).outputs;
-  past = past.served_as t.past ask (length t.world.sent) o;
+  past = past.served_request t.past (Some ask) (served_as (store_of state) ask o) (length t.world.sent);
 }
 
 -- the servers stay
@@ -101,8 +101,9 @@ module _ (t : Trace) (inv : Inv t) (s : ℕ) (state : ServerState) (is : slice_g
       let found : Reply = found_at state l.dir l.name until in
       let owner = owner_of own_store l.dir (part_for state.node l.dir l.name) servers s l.owner owned.servers owned.server in
       subst (λ r. Reaches t (done_as t s state ask (Looks r))) (sym l.reply')
+      (subst (λ a. Reaches t (record { world = say (set_server t.world s state) (answer_to ask found ∷ []); past = past.looked_as t.past ask a found (length t.world.sent) })) (sym l.asked)
       (said_with t s state is (answer_to ask found) (past.looked t.past ask found (length t.world.sent))
-      (step (Look s state ask l.dir l.name until) (record { is = is; asked = l.asked; owner = owner; told = told }) here))
+      (step (Look s state ask l.dir l.name until) (record { is = is; asked = l.asked; owner = owner; told = told }) here)))
 
   as_repeats : (said : Final) → RepeatsTrue own_store ask said → Reaches t (done_as t s state ask (Repeats said))
   as_repeats said r =
@@ -112,7 +113,8 @@ module _ (t : Trace) (inv : Inv t) (s : ℕ) (state : ServerState) (is : slice_g
       ∙ ap (λ (v : NodeAndRows). session_in v.node r.dir r.part ask.client) (store_was t.world.servers s state is) ∙ r.session in
       let source : Among t.past.made (λ k e. IsToldOf e ask.client ask.seq said) =
       among_map (inv.sessions.session_true r.dir r.part ask.client r.kept old) (λ k e n. record { client' = n.client'; seq' = n.seq ∙ r.seq; reply' = n.reply ∙ ap Said r.said'; kind = n.kind }) in
-      said_with t s state is (answer_to ask (Said said)) t.past (step (Tell ask.client ask.seq ask.attempt said) source here)
+      subst (λ a. Reaches t (record { world = say (set_server t.world s state) (answer_to ask (Said said) ∷ []); past = past.looked_as t.past ask a (Said said) (length t.world.sent) })) (sym r.asked)
+      (said_with t s state is (answer_to ask (Said said)) t.past (step (Tell ask.client ask.seq ask.attempt said) source here))
 
   as_carries : (said : Final) → CarriesTrue own_store ask said → Reaches t (done_as t s state ask (Carries said))
   as_carries said c =
@@ -127,7 +129,7 @@ module _ (t : Trace) (inv : Inv t) (s : ℕ) (state : ServerState) (is : slice_g
       step (Note s state ask.client ask.seq ask.call c.dir c.name) (record { is = is; up = up; may = may_carry servers t.world.sent s own_store owned numbers ask told said c })
       (step (Tell ask.client ask.seq ask.attempt own) source here) in
       let at_call : Reaches t (done_as t s state ask (Carries own)) =
-      subst (λ a. Reaches t (record { world = say (set_server t.world s (with_store state (carried_at own_store ask.client ask.seq ask.call a))) (answer_to ask (Said own) ∷ []); past = changed t.past ask.client ask.seq ask.call own }))
+      subst (λ a. Reaches t (record { world = say (set_server t.world s (with_store state (carried_at own_store ask.client ask.seq ask.call a))) (answer_to ask (Said own) ∷ []); past = past.looked_as (changed t.past ask.client ask.seq ask.call own) ask a (Said own) (length t.world.sent) }))
       (sym c.asked) at_name in
       subst (λ f. Reaches t (done_as t s state ask (Carries f))) (sym c.said') at_call
 
@@ -154,7 +156,7 @@ msg_follows count sent s store own numbers (Some ask) now told = as_follows coun
 abbrev done_for : Trace → ℕ → ServerState → Option Ask → Trace
 done_for t s state o = record {
   world = say (set_server t.world s (with_store state (serve_request (store_of state) o t.world.now).store)) (serve_request (store_of state) o t.world.now).outputs;
-  past = past.served_request t.past (store_of state) o t.world.now (length t.world.sent);
+  past = past.served_request t.past o (serve_request (store_of state) o t.world.now) (length t.world.sent);
 }
 
 msg_reaches : (t : Trace) → Inv t → (s : ℕ) (state : ServerState) → slice_get t.world.servers s ≡ Some state → state.up ≡ true → has_numbers state.node ≡ true → (o : Option Ask)
@@ -205,6 +207,7 @@ msg_store count s store own (Some ask) now = as_store count s store own ask (out
 
 -- what is in doubt where a Serve of messages stops may be made
 pub serve_follows : (count : ℕ) (sent : List Msg) (s : ℕ) (msgs : List Msg) (store : NodeAndRows) (now : ℕ) → IsStoreOf count s store → HasNumbersFor store msgs now → AreSent sent msgs → Follows count sent s store (serve_all store msgs now).records
+unfolding serve
 serve_follows count sent s [] store now own numbers are = tt
 serve_follows count sent s (msg ∷ msgs) store now own numbers are =
     let next : NodeAndRows = (serve store msg now).store in
@@ -223,6 +226,7 @@ done_all t s state msgs = record {
 -- a Serve of messages that is done is a list of micro-steps
 pub serve_reaches : (msgs : List Msg) (t : Trace) → Inv t → (s : ℕ) (state : ServerState) → slice_get t.world.servers s ≡ Some state → state.up ≡ true → HasNumbersFor (store_of state) msgs t.world.now → AreSent t.world.sent msgs
     → Reaches t (done_all t s state msgs)
+unfolding serve
 serve_reaches [] t inv s state is up numbers are = nothing t s state is
 serve_reaches (msg ∷ msgs) t inv s state is up numbers are =
     let one : ServedV = serve (store_of state) msg t.world.now in

@@ -7,14 +7,12 @@ use Rattle.std.proofs.lemmas.Bool.{and_parts, ltb-true}
 use Rattle.std.proofs.lemmas.List.FromFn.{map-range_with_len_more}
 use Rattle.mds_base.specs.declared.limits.TheConstants.{CALLS, DIRECTORIES}
 use Rattle.mds_base.specs.declared.setup.Setup.{Setup}
-use Rattle.mds_base.specs.declared.ask.Ask.{Ask}
 use Rattle.mds_base.specs.declared.call.Call.{Call}
 use Rattle.records.specs.declared.msg.Msg.{Msg}
 use Rattle.records.specs.declared.msg.Msg.TheVariants.{Request, Redirect, Answer, Busy, Held, Page, Closed, Transfer, Installed}
-use Rattle.node_core.specs.Nodes.{NodeAndRows}
-use Rattle.node_core.specs.Rules.{Outcome, Silent, Looks, Repeats, Carries, outcome, is_served, request_in}
-use Rattle.node_core.specs.Serving.{serve, serve_request, served_as}
-use Rattle.node_core.specs.Ranges.{RequestFits, DirFits, RecordFits}
+use Rattle.node_core.specs.Rules.{is_served}
+use Rattle.node_core.specs.Serving.{serve}
+use Rattle.node_core.specs.Ranges.{DirFits, RecordFits}
 use Rattle.client_core.specs.declared.client.Pending.{Pending}
 use Rattle.bitmap.specs.Bits.{Bits}
 use Rattle.client_core.specs.Clients.{ClientV, issued, issue_msg, merged, SendsAgain}
@@ -28,8 +26,10 @@ use Rattle.mds_base.specs.Setups.{IsSetup}
 use Rattle.world.specs.Ranges.{IsRanged, PendingFits, SeatFits, DoubtFits}
 use Rattle.world.specs.Worlds.{WorldV, store_of, new_server, new_seat}
 use Rattle.world.specs.Events.{is_call, is_open, seat_at, can_issue, can_resend, can_take, can_serve}
-use Rattle.mds_base.proofs.Grow.{each_push, each_set}
+use Rattle.mds_base.proofs.Grow.{each_set}
 use Rattle.node_core.proofs.Calls.{well_made_fits}
+use Rattle.node_core.proofs.ToldOutputs.{outputs_fit}
+use Rattle.node_core.proofs.ToldRecords.{records_fit}
 use Rattle.world.proofs.Ranges.{seat_set, msg_sent, msgs_sent}
 use Rattle.mds_base.proofs.Lists.{each_none, item_is, ranged}
 use Rattle.world.proofs.Stepped.{seat_is, seat_place}
@@ -38,34 +38,6 @@ use Rattle.world.proofs.Stepped.{seat_is, seat_place}
 
 pub call_fits : (call : Call) → is_call call ≡ true → dir_of call < DIRECTORIES
 call_fits call e = well_made_fits call (and_parts (is_served call) (is_well_made call) e).1
-
--- What serving gives
-
-served_outputs : (store : NodeAndRows) (ask : Ask) (o : Outcome) → Each (served_as store ask o).outputs (λ k m. DirFits m)
-served_outputs store ask Silent = each_none
-served_outputs store ask (Looks reply) = each_push _ each_none tt
-served_outputs store ask (Repeats said) = each_push _ each_none tt
-served_outputs store ask (Carries said) = each_push _ each_none tt
-
-request_outputs : (store : NodeAndRows) (request : Option Ask) (now : ℕ) → Each (serve_request store request now).outputs (λ k m. DirFits m)
-request_outputs store None now = each_none
-request_outputs store (Some ask) now = served_outputs store ask (outcome store ask now)
-
-pub outputs_fit : (store : NodeAndRows) (msg : Msg) (now : ℕ) → Each (serve store msg now).outputs (λ k m. DirFits m)
-outputs_fit store msg now = request_outputs store (request_in msg) now
-
-served_records : (store : NodeAndRows) (ask : Ask) (o : Outcome) → dir_of ask.call < DIRECTORIES → Each (served_as store ask o).records (λ k item. RecordFits item)
-served_records store ask Silent fits = each_none
-served_records store ask (Looks reply) fits = each_none
-served_records store ask (Repeats said) fits = each_none
-served_records store ask (Carries said) fits = each_push _ each_none fits
-
-request_records : (store : NodeAndRows) (request : Option Ask) (now : ℕ) → RequestFits request → Each (serve_request store request now).records (λ k item. RecordFits item)
-request_records store None now fits = each_none
-request_records store (Some ask) now fits = served_records store ask (outcome store ask now) fits
-
-pub records_fit : (store : NodeAndRows) (msg : Msg) (now : ℕ) → DirFits msg → Each (serve store msg now).records (λ k item. RecordFits item)
-records_fit store msg now fits = request_records store (request_in msg) now fits
 
 -- What taking leaves
 

@@ -13,11 +13,12 @@ use Rattle.mds_base.specs.Entries.{Entries}
 use Rattle.mds_base.specs.PlainRules.{after}
 use Rattle.mds_base.specs.History.{IsLegal}
 use Rattle.records.specs.declared.msg.Msg.{Msg}
+use Rattle.records.specs.declared.msg.Msg.TheVariants.{Answer}
 use Rattle.records.specs.declared.record.Record.{Record}
 use Rattle.records.specs.declared.record.Record.TheVariants.{Served}
 use Rattle.node_core.specs.Nodes.{NodeAndRows}
-use Rattle.node_core.specs.Rules.{Outcome, Looks, Carries, outcome, request_in}
-use Rattle.node_core.specs.Serving.{serve, may_follow, replayed}
+use Rattle.node_core.specs.Rules.{Asked, ChangeOf, LookOf, NotServed, asked_of, request_in}
+use Rattle.node_core.specs.Serving.{ServedV, serve, may_follow, replayed}
 use Rattle.client_core.specs.declared.client.Pending.{Pending}
 use Rattle.client_core.specs.declared.taken.Taken.{Taken}
 use Rattle.client_core.specs.declared.taken.Taken.TheVariants as variants
@@ -98,17 +99,39 @@ abbrev pub looked : History → Ask → Reply → ℕ → History
 looked h ask reply message =
     made_more h (record { client = ask.client; seq = ask.seq; call = ask.call; reply = reply }) (Looked message)
 
-abbrev pub served_as : History → Ask → ℕ → Outcome → History
-served_as h ask message (Carries said) = changed h ask.client ask.seq ask.call said
-served_as h ask message (Looks reply) = looked h ask reply message
-served_as h ask message outcome = h
+-- .. as the call that was asked goes: only a look is an entry by its answer
+abbrev pub looked_as : History → Ask → Asked → Reply → ℕ → History
+looked_as h ask (LookOf dir name) reply message = looked h ask reply message
+looked_as h ask (ChangeOf dir name) reply message = h
+looked_as h ask NotServed reply message = h
 
-abbrev pub served_request : History → NodeAndRows → Option Ask → ℕ → ℕ → History
-served_request h store None now message = h
-served_request h store (Some ask) now message = served_as h ask message (outcome store ask now)
+-- the message of a list of one
+abbrev pub only_of : List Msg → Option Msg
+only_of (msg ∷ []) = Some msg
+only_of msgs = None
+
+abbrev pub looked_by : History → Ask → Option Msg → ℕ → History
+looked_by h ask (Some (Answer client seq attempt reply)) message =
+    looked_as h ask (asked_of ask.call) reply message
+looked_by h ask msg message = h
+
+-- a record tells of a change where it may follow
+abbrev pub replayed_one : History → Record → Bool → History
+replayed_one h (Served client seq part call said) true = changed h client seq call said
+replayed_one h item follows = h
+
+abbrev pub recorded : History → List Record → History
+recorded h [] = h
+recorded h (item ∷ items) = recorded (replayed_one h item true) items
+
+-- a message was served: each change is told by its record, and a lookup by its one answer
+abbrev pub served_request : History → Option Ask → ServedV → ℕ → History
+served_request h None served message = recorded h served.records
+served_request h (Some ask) served message =
+    looked_by (recorded h served.records) ask (only_of served.outputs) message
 
 abbrev pub served_one : History → NodeAndRows → Msg → ℕ → ℕ → History
-served_one h store msg now message = served_request h store (request_in msg) now message
+served_one h store msg now message = served_request h (request_in msg) (serve store msg now) message
 
 -- messages were served one after another, what they send beginning at this place
 abbrev pub served_all : History → NodeAndRows → List Msg → ℕ → ℕ → History
@@ -116,10 +139,6 @@ served_all h store [] now message = h
 served_all h store (msg ∷ msgs) now message =
     served_all (served_one h store msg now message) (serve store msg now).store msgs now
     (message + length (serve store msg now).outputs)
-
-abbrev pub replayed_one : History → Record → Bool → History
-replayed_one h (Served client seq part call said) true = changed h client seq call said
-replayed_one h item follows = h
 
 -- records in doubt were kept, one after another
 abbrev pub replayed_all : History → NodeAndRows → List Record → History
