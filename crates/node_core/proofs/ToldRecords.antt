@@ -178,6 +178,22 @@ pub serve_records : (store : NodeAndRows) (msg : Msg) (now : ℕ) → IsMessage 
 unfolding serve
 serve_records store msg now made numbers few from_two = request_records store (request_in msg) now made numbers few from_two
 
+-- ---- how many records there are at most
+
+few_as : (store : NodeAndRows) (ask : Ask) (o : Outcome) → length (served_as store ask o).records ≤ 1
+few_as store ask Silent = omega arith
+few_as store ask (Looks reply) = omega arith
+few_as store ask (Repeats said) = omega arith
+few_as store ask (Carries said) = omega arith
+
+few_for : (store : NodeAndRows) (request : Option Ask) (now : ℕ) → length (serve_request store request now).records ≤ 1
+few_for store None now = omega arith
+few_for store (Some ask) now = few_as store ask (outcome store ask now)
+
+pub few_records : (store : NodeAndRows) (msg : Msg) (now : ℕ) → length (serve store msg now).records ≤ 1
+unfolding serve
+few_records store msg now = few_for store (request_in msg) now
+
 -- ---- the records of a message that is in range are in range
 
 records_as : (store : NodeAndRows) (ask : Ask) (o : Outcome) → dir_of ask.call < DIRECTORIES → Each (served_as store ask o).records (λ k item. RecordFits item)

@@ -65,12 +65,12 @@ served_as store ask (Carries said) =
 abbrev pub serve_ask : NodeAndRows → Ask → ℕ → ServedV
 serve_ask store ask now = served_as store ask (outcome store ask now)
 
--- serving a message; what is no request changes nothing and sends nothing, since nothing splits yet; what is known of it
--- for every store is in `proofs/ToldRecords.antt` and `proofs/ToldOutputs.antt`, and the crates above go by that
+-- serving a message; what is no request changes nothing and sends nothing, since nothing splits yet
 abbrev pub serve_request : NodeAndRows → Option Ask → ℕ → ServedV
 serve_request store None now = record { store = store; records = []; outputs = [] }
 serve_request store (Some ask) now = serve_ask store ask now
 
+-- what is known of it for every store is in `proofs/ToldRecords.antt` and `proofs/ToldOutputs.antt`
 unfoldable pub serve : NodeAndRows → Msg → ℕ → ServedV
 serve store msg now = serve_request store (request_in msg) now
 
