@@ -1,5 +1,5 @@
 -- What a disk stands for.
-use Rattle.std.specs.Prelude.{◌≡◌, ℕ, ◌<◌, ◌&&◌, Bool, true, List, [], ◌∷◌, ◌++◌, length, ◌⊎◌}
+use Rattle.std.specs.Prelude.{◌≡◌, ℕ, ◌<◌, true, List, [], ◌∷◌, ◌++◌, length, ◌⊎◌}
 use Rattle.std.specs.List.{AllByRecursion, flat_map}
 use Rattle.std.specs.FinMap as map
 use Rattle.mds_base.specs.declared.setup.Setup.{Setup}
@@ -9,16 +9,12 @@ use Rattle.records.specs.Spelling.{IsRecord, record_spelling}
 use Rattle.gate_log.specs.Log.{HoldsLog}
 use Rattle.node_core.specs.Nodes.{NodeAndRows, new_node}
 use Rattle.node_core.specs.Durable.{durable}
-use Rattle.node_core.specs.Serving.{may_follow, replayed, replayed_all}
+pub use Rattle.node_core.specs.Serving.{all_follow}
+use Rattle.node_core.specs.Serving.{replayed, replayed_all}
 
 -- a server on which nothing was noted yet, with its rows
 abbrev pub new_store : ℕ → Setup → NodeAndRows
 new_store server setup = record { node = new_node server setup; rows = map.empty }
-
--- each record may follow where those before it lead
-abbrev pub all_follow : NodeAndRows → List Record → Bool
-all_follow store [] = true
-all_follow store (item ∷ items) = may_follow store item && all_follow (replayed store item) items
 
 -- the records of a body, one or more
 pub record IsBody (body : List ℕ) (items : List Record) : Type 0 where

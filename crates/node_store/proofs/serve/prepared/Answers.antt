@@ -2,7 +2,7 @@ use Rattle.std.proofs.Common.{sym, subst, List}
 use Rattle.std.specs.List.{AllByRecursion}
 use Rattle.records.specs.declared.record.Record.{Record}
 use Rattle.records.specs.Spelling.{IsRecord}
-use Rattle.node_store.proofs.Serving.{serve_records}
+use Rattle.node_core.proofs.ToldRecords.{serve_records}
 use Rattle.node_store.proofs.serve.prepared.Goals as goal
 
 pub piece_of-requires : goal.piece_of-requires

@@ -1,5 +1,7 @@
-use Rattle.std.proofs.Common.{◌≡◌, ◌∙◌, ap, subst, sym, true}
+use Rattle.std.proofs.Common.{◌≡◌, ◌∙◌, ap, subst, sym, ◌≤◌, List, length, true, arith}
+use Rattle.records.specs.declared.record.Record.{Record}
 use Rattle.node_core.specs.Nodes.{NodeAndRows, has_numbers}
+use Rattle.node_core.proofs.ToldRecords.{few_records}
 use Rattle.node_store.specs.Parts.{IsNodeOf}
 use Rattle.node_store.specs.Store.{Store, IsKept}
 use Rattle.node_store.proofs.Serving.{serve_stays, same_store}
@@ -24,3 +26,9 @@ invariant_of-self g c =
             sure = was.sure;
           },
     )
+
+pub invariant_of-self-in-Err-Disk : goal.invariant_of-self-in-Err-Disk
+invariant_of-self-in-Err-Disk g c =
+    let store : NodeAndRows = record { node = c.self.inside.node; rows = c.self.inside.rows } in
+    let few : length c.in-Err-Disk.doubt ≤ 1 = subst (λ (items : List Record). length items ≤ 1) (sym (rw c.in-Err-Disk.field-0-is at c.in-Err-Disk.ensures.doubt)) (few_records store c.args.msg.now c.args.now) in
+    (c.self.invariant.0, omega (arith, few), λ up. cc)
