@@ -4,7 +4,6 @@ use Rattle.std.specs.Prelude.{slice_set}
 use Rattle.std.specs.List.{slice_get}
 use Rattle.std.proofs.lemmas.Nat.{mod_below}
 use Rattle.mds_base.specs.declared.limits.TheConstants.{CALLS, EVENTS, MOMENTS}
-use Rattle.mds_base.specs.declared.ask.Ask.{Ask}
 use Rattle.mds_base.specs.declared.call.Call.{Call}
 use Rattle.mds_base.specs.declared.reply.Reply.{Reply}
 use Rattle.mds_base.specs.declared.setup.Setup.{Setup}
@@ -16,13 +15,11 @@ use Rattle.client_core.specs.Clients.{ClientV, HasRoom, target_of, issued, resen
 use Rattle.mds_base.specs.Calls.{dir_of}
 use Rattle.client_core.specs.Taking.{take, take_at, take_pending, answered_if, redirected_if, busy_if, held_if}
 use Rattle.node_core.specs.Nodes.{NodeAndRows}
-use Rattle.node_core.specs.Rules.{Outcome, Silent, Looks, Repeats, Carries, outcome, request_in}
-use Rattle.node_core.specs.Serving.{serve, serve_request, served_as}
+use Rattle.node_core.specs.Serving.{serve}
+use Rattle.node_core.proofs.ToldOutputs.{outputs_sent}
 use Rattle.node_store.specs.Serve.{IsWellMade}
 use Rattle.node_store.specs.Store.{Store}
-use Rattle.mds_base.specs.Lists.{Each}
-use Rattle.mds_base.proofs.Grow.{each_push, each_set, length_set}
-use Rattle.mds_base.proofs.Lists.{each_none}
+use Rattle.mds_base.proofs.Grow.{each_set, length_set}
 use Rattle.world.specs.Ranges.{AreRanges}
 use Rattle.world.proofs.Ranges.{seat_set, seats_mapped, msg_sent, msgs_sent, later}
 use Rattle.mds_base.specs.Setups.{IsSetup}
@@ -125,25 +122,14 @@ calls_left {count = count} {client = client} few s = (omega (arith, few, s.seq),
 
 -- Messages that a server sends
 
-module _ (servers : ℕ) where
-  answers : (store : NodeAndRows) (ask : Ask) (o : Outcome) → Each (served_as store ask o).outputs (λ k msg. IsSent servers msg)
-  answers store ask Silent = each_none
-  answers store ask (Looks reply) = each_push {xs = []} _ each_none (record { there = tt; made = tt })
-  answers store ask (Repeats said) = each_push {xs = []} _ each_none (record { there = tt; made = tt })
-  answers store ask (Carries said) = each_push {xs = []} _ each_none (record { there = tt; made = tt })
-
-  answers_to : (store : NodeAndRows) (request : Option Ask) (now : ℕ) → Each (serve_request store request now).outputs (λ k msg. IsSent servers msg)
-  answers_to store None now = each_none
-  answers_to store (Some ask) now = answers store ask (outcome store ask now)
-
 module _ {setup : Setup} {now count : ℕ} {clients : List ClientV} {sent : List Msg} (r : AreRanges setup now (IsSeat setup count) clients (IsSent setup.servers) sent) where
   pub same_sent : (sent' : List Msg) → sent' ≡ sent → AreRanges setup now (IsSeat setup count) clients (IsSent setup.servers) sent'
   same_sent sent' is = subst (AreRanges setup now (IsSeat setup count) clients (IsSent setup.servers)) (sym is) r
 
   after_sent : (store : NodeAndRows) (msg : Msg) (at : ℕ) (served : Served) → AreRanges setup now (IsSeat setup count) clients (IsSent setup.servers) (sent_after sent (serve store msg at) served)
   after_sent store msg at serves.Stopped = r
-  after_sent store msg at serves.Silent = msgs_sent r _ (answers_to setup.servers store (request_in msg) at)
-  after_sent store msg at (serves.Answered message) = msgs_sent r _ (answers_to setup.servers store (request_in msg) at)
+  after_sent store msg at serves.Silent = msgs_sent r _ (outputs_sent setup.servers store msg at)
+  after_sent store msg at (serves.Answered message) = msgs_sent r _ (outputs_sent setup.servers store msg at)
 
   pub served_sent : (store : NodeAndRows) (msg : Msg) (at : ℕ) (served : Served) (sent' : List Msg) → sent' ≡ sent_after sent (serve store msg at) served → AreRanges setup now (IsSeat setup count) clients (IsSent setup.servers) sent'
   served_sent store msg at served sent' is = subst (AreRanges setup now (IsSeat setup count) clients (IsSent setup.servers)) (sym is) (after_sent store msg at served)

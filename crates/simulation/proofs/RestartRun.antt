@@ -4,14 +4,13 @@ use Rattle.std.specs.Prelude.{◌||◌, slice_set}
 use Rattle.std.specs.Prelude.{map as list_map}
 use Rattle.std.specs.List.{slice_get}
 use Rattle.std.proofs.lemmas.Bool.{and_from, and_parts, eq-eqb}
-use Rattle.std.proofs.lemmas.List.{append-nil, map-append}
+use Rattle.std.proofs.lemmas.List.{append-nil}
 use Rattle.std.proofs.lemmas.List.Elements.{filter_map-append}
 use Rattle.mds_base.specs.declared.limits.TheConstants.{EVENTS}
 use Rattle.mds_base.specs.declared.setup.Setup.{Setup}
 use Rattle.mds_out.specs.Disk.{Image, Contents}
 use Rattle.mds_out.specs.Known.{OnTold}
 use Rattle.records.specs.declared.record.Record.{Record}
-use Rattle.records.specs.declared.record.Record.TheVariants.{Head, Opened, Begin, Install, End, Served}
 use Rattle.node_core.specs.Nodes.{NodeAndRows}
 use Rattle.node_core.specs.Serving.{may_follow, replayed, replayed_all, restarted}
 use Rattle.node_store.specs.Serve.{IsAllOrNone}
@@ -32,27 +31,11 @@ use Rattle.simulation.specs.Moves.{restarted_by}
 use Rattle.simulation.specs.Stores.{IsRestarted, IsDownStill}
 use Rattle.simulation.specs.Shows.{SimulationV, Shows, Happens, StaysNear, made_of}
 use Rattle.pasts.specs.Servers.{IsServer, AreServers}
+use Rattle.simulation.proofs.ServeEntries.{one_made, one_answered}
 use Rattle.simulation.proofs.EventRun.{goes_on, quiet_shows}
 use Rattle.pasts.proofs.ServersStand.{IsDownAs, as_down, server_of, servers_set}
 
 -- The entries of the records that were kept
-
-one_made : (h : History) (item : Record) → list_map made_of (past.replayed_one h item true).made ≡ list_map made_of h.made ++ changes_of (item ∷ [])
-one_made h (Served client seq part call said) = map-append made_of h.made _
-one_made h (Head format servers server threshold) = sym (append-nil (list_map made_of h.made))
-one_made h Opened = sym (append-nil (list_map made_of h.made))
-one_made h (Begin dir part depth) = sym (append-nil (list_map made_of h.made))
-one_made h (Install dir part depth bitmap sessions rows) = sym (append-nil (list_map made_of h.made))
-one_made h (End dir part depth) = sym (append-nil (list_map made_of h.made))
-
-one_answered : (h : History) (item : Record) (b : Bool) → (past.replayed_one h item b).answered ≡ h.answered
-one_answered h (Served client seq part call said) true = refl
-one_answered h (Served client seq part call said) false = refl
-one_answered h (Head format servers server threshold) b = refl
-one_answered h Opened b = refl
-one_answered h (Begin dir part depth) b = refl
-one_answered h (Install dir part depth bitmap sessions rows) b = refl
-one_answered h (End dir part depth) b = refl
 
 pub kept_made : (h : History) (store : NodeAndRows) (items : List Record) → all_follow store items ≡ true → list_map made_of (past.replayed_all h store items).made ≡ list_map made_of h.made ++ changes_of items
 kept_made h store [] follow = sym (append-nil (list_map made_of h.made))

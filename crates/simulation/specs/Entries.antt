@@ -11,6 +11,7 @@ use Rattle.records.specs.declared.msg.Msg.TheVariants.{Answer}
 use Rattle.records.specs.declared.record.Record.{Record}
 use Rattle.records.specs.declared.record.Record.TheVariants as records
 use Rattle.node_core.specs.Rules.{request_in}
+pub use Rattle.world.specs.Histories.{only_of}
 use Rattle.message_store.specs.declared.made.Kind.TheVariants as kinds
 use Rattle.message_store.specs.declared.made.Made.{Made}
 use Rattle.simulation.specs.declared.servers.Served.{Served}
@@ -46,11 +47,6 @@ is_lookup_ask (Some ask) = is_lookup_call ask.call
 
 abbrev pub is_lookup : Msg → Bool
 is_lookup msg = is_lookup_ask (request_in msg)
-
--- the message of a list of one
-abbrev pub only_of : List Msg → Option Msg
-only_of (msg ∷ []) = Some msg
-only_of msgs = None
 
 -- that of a request that was answered by one message
 abbrev pub looked_one : Ask → Option Msg → ℕ → Option Made

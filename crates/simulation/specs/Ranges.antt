@@ -1,12 +1,12 @@
 -- What holds of a simulation's numbers, so that its calls may be made.
-use Rattle.std.specs.Prelude.{◌≡◌, ℕ, ◌+◌, ◌<◌, ◌≤◌, List, length, Option, Some, None, MatchOption}
+use Rattle.std.specs.Prelude.{◌≡◌, ℕ, ◌+◌, ◌≤◌, List, length, Option, Some, None}
 use Rattle.mds_base.specs.declared.limits.TheConstants.{EVENTS}
 use Rattle.mds_base.specs.declared.setup.Setup.{Setup}
 use Rattle.records.specs.declared.msg.Msg.{Msg}
-use Rattle.records.specs.Messages.{server_of_msg}
 use Rattle.client_core.specs.declared.client.Pending.{Pending}
 use Rattle.client_core.specs.Clients.{ClientV}
-use Rattle.node_store.specs.Serve.{IsMessage, IsWellMade}
+pub use Rattle.node_core.specs.Messages.{IsSent}
+use Rattle.node_store.specs.Serve.{IsWellMade}
 use Rattle.node_store.specs.Store.{Store}
 use Rattle.mds_base.specs.Lists.{Each}
 use Rattle.world.specs.Ranges.{AreRanges}
@@ -27,11 +27,6 @@ pub record IsSeat (setup : Setup) (count k : ℕ) (client : ClientV) : Type 0 wh
   pub setup' : client.setup ≡ setup
   pub seq : client.seq ≤ count
   pub pending : IsOpen count client.seq client.pending
-
--- a message is well made, and one that is for a server is for one that is there
-pub record IsSent (servers : ℕ) (msg : Msg) : Type 0 where
-  pub there : MatchOption (server_of_msg msg) (Unit {0}) (λ server. server < servers)
-  pub made : IsMessage msg
 
 -- each server on its disk has its place for number, and the setup of all
 pub record AreStores {X : Type 0} (setup : Setup) (stores : List (Store X)) : Type 0 where
