@@ -3,6 +3,7 @@ pub mod Keys
 pub mod Views
 pub mod Parts
 pub mod Bitmaps
+pub mod Reached
 pub mod Served
 pub mod Worked
 pub mod Planned

@@ -9,8 +9,9 @@ use Rattle.mds_base.specs.RowKeys.{RowMap}
 use Rattle.records.specs.declared.record.Record.{Record}
 use Rattle.records.specs.declared.record.Record.TheVariants.{Head, Opened, Served}
 use Rattle.sessions.specs.Kept.{judge_kept}
-use Rattle.node_core.specs.Nodes.{NodeV, NodeAndRows, part_for, owns, server_for, session_in, row_in, noted_in, rows_after, has_numbers, is_new}
-use Rattle.node_core.specs.Rules.{Asked, ChangeOf, LookOf, NotServed, asked_of, said_of, said_in, Silent, Looks, by_judged, outcome, outcome_of}
+use Rattle.node_core.proofs.Reached.{look_carries}
+use Rattle.node_core.specs.Nodes.{NodeV, NodeAndRows, frozen_at, bits_in, part_for, owns, server_for, session_in, row_in, noted_in, rows_after, has_numbers, is_new}
+use Rattle.node_core.specs.Rules.{Asked, ChangeOf, LookOf, NotServed, asked_of, said_of, said_in, Redirects, Looks, by_judged, unless_frozen, outcome, outcome_of}
 use Rattle.node_core.specs.Serving.{ask_of, carries, carried_at, may_follow, part_at, replayed, replayed_as, replayed_all}
 use Rattle.node_core.specs.Terms.{SharesHead, node_on, store_on, ReplaysOn, ReplaysOnAllTerms}
 
@@ -26,10 +27,6 @@ noted_on node terms rows dir part name client seq call said = refl
 located_on : (node : NodeV) (terms : Setup) (dir : ℕ) (name : List ℕ) → part_for (node_on terms node) dir name ≡ part_for node dir name
 unfolding part_for
 located_on node terms dir name = refl
-
-look_carries : (b : Bool) (reply : Reply) (said : Final) → carries (cond b (Looks reply) Silent) said ≡ false
-look_carries true reply said = refl
-look_carries false reply said = refl
 
 module _ (store : NodeAndRows) (terms : Setup) where
   -- the store once a change was carried out in a partition, on these terms
@@ -61,12 +58,14 @@ module _ (store : NodeAndRows) (terms : Setup) where
     owns_on dir part = ap (λ servers. server_for servers dir part == store.node.server) share.servers
 
     carries_on : (ask : Ask) (said : Final) (asked : Asked) → carries (outcome_of (store_on terms store) ask 0 asked) said ≡ carries (outcome_of store ask 0 asked) said
+    unfolding part_for session_in
     carries_on ask said (ChangeOf dir name) =
-        let part = part_for store.node dir name in
-        ap (λ p. carries (cond (owns (node_on terms store.node) dir p) (by_judged (judge_kept (session_in (node_on terms store.node) dir p ask.client) ask.seq) (said_of ask.call (row_in store.rows dir p name) store.node.next)) Silent) said) (located_on store.node terms dir name)
-        ∙ ap (λ b. carries (cond b (by_judged (judge_kept (session_in (node_on terms store.node) dir part ask.client) ask.seq) (said_in store ask.call dir name)) Silent) said) (owns_on dir part)
-        ∙ ap (λ kept. carries (cond (owns store.node dir part) (by_judged (judge_kept kept ask.seq) (said_in store ask.call dir name)) Silent) said) (session_on store.node terms dir part ask.client)
-    carries_on ask said (LookOf dir name) = look_carries (owns (node_on terms store.node) dir (part_for (node_on terms store.node) dir name)) _ said ∙ sym (look_carries (owns store.node dir (part_for store.node dir name)) _ said)
+        ap (λ b. carries (cond b (unless_frozen (frozen_at store.node dir name) (part_for store.node dir name)
+        (by_judged (judge_kept (session_in store.node dir (part_for store.node dir name) ask.client) ask.seq) (said_in store ask.call dir name)))
+        (Redirects (bits_in store.node dir))) said) (owns_on dir (part_for store.node dir name))
+    carries_on ask said (LookOf dir name) =
+        look_carries (owns (node_on terms store.node) dir (part_for (node_on terms store.node) dir name)) _ _ _ _ said
+        ∙ sym (look_carries (owns store.node dir (part_for store.node dir name)) (frozen_at store.node dir name) _ _ _ said)
     carries_on ask said NotServed = refl
 
     follows_on : (client seq part : ℕ) (call : Call) (said : Final) → may_follow (store_on terms store) (Served client seq part call said) ≡ may_follow store (Served client seq part call said)

@@ -1,5 +1,5 @@
 -- When a record may follow, and what replaying it comes to.
-use Rattle.std.proofs.Common.{◌≡◌, ◌∙◌, sym, ap, refl, subst, ℕ, ◌==◌, ◌&&◌, Bool, true, false, cond, List, Option, Some, None}
+use Rattle.std.proofs.Common.{◌≡◌, ◌∙◌, sym, ap, refl, subst, ℕ, ◌==◌, ◌&&◌, not, is_some, Bool, true, false, List, Option, Some, None}
 use Rattle.std.proofs.lemmas.Bool.{and_parts, and_from, eqb-true, eq-eqb, false_from_ne_true}
 use Rattle.mds_base.specs.declared.call.Call.{Call}
 use Rattle.mds_base.specs.declared.reply.Final.{Final}
@@ -10,7 +10,8 @@ use Rattle.records.specs.declared.record.Record.TheVariants.{Served}
 use Rattle.sessions.specs.declared.kept.Judged.{Judged}
 use Rattle.sessions.specs.declared.kept.Judged.TheVariants.{New, Again, Old}
 use Rattle.sessions.specs.Kept.{judge_kept}
-use Rattle.node_core.specs.Nodes.{NodeV, NodeAndRows, part_for, owns, has_numbers, session_in}
+use Rattle.node_core.proofs.Reached.{reached_here, reached_carries, look_carries, carries_is, judged_new, is_free}
+use Rattle.node_core.specs.Nodes.{frozen_at, NodeV, NodeAndRows, part_for, owns, has_numbers, session_in}
 use Rattle.mds_base.specs.RowKeys.{RowMap}
 use Rattle.partition.specs.declared.plan.Plan.{Plan as PartPlan}
 use Rattle.partition.specs.Planning.{judged_plan}
@@ -20,7 +21,7 @@ use Rattle.node_core.specs.Edits.{node_noted, CanBeMade}
 use Rattle.node_core.specs.Planning.{change_of}
 use Rattle.node_core.proofs.Served.{carried_change, noted_so, rows_so, can_be_made}
 use Rattle.node_core.proofs.Worked.{carried_plan, plan_at, worked_so, change_left, none_left}
-use Rattle.node_core.specs.Rules.{ChangeOf, LookOf, NotServed, asked_of, said_in, Outcome, Silent, Looks, Carries, by_judged, outcome_of, outcome}
+use Rattle.node_core.specs.Rules.{ChangeOf, LookOf, NotServed, asked_of, said_in, Outcome, Silent, Carries, by_judged, outcome_of, outcome}
 use Rattle.node_core.specs.Serving.{carries, may_follow, is_placed, may_carry, is_new_change, part_at, ask_of, carried, carried_at, replayed, replayed_as, IsReplayed}
 
 -- a record that may not follow changes nothing
@@ -33,10 +34,6 @@ stays store client seq part call said never =
 -- a call that is no change is not replayed
 no_carries : (store : NodeAndRows) (client seq : ℕ) (call : Call) (said : Final) (o : Outcome) → outcome store (ask_of client seq call) 0 ≡ o → carries o said ≡ false → carries (outcome store (ask_of client seq call) 0) said ≡ false
 no_carries store client seq call said o is never = ap (λ x. carries x said) is ∙ never
-
-look_carries : (b : Bool) (reply : Reply) (said : Final) → carries (cond b (Looks reply) Silent) said ≡ false
-look_carries true reply said = refl
-look_carries false reply said = refl
 
 no_follow : (store : NodeAndRows) (client seq part : ℕ) (call : Call) (said : Final) → carries (outcome store (ask_of client seq call) 0) said ≡ false → may_follow store (Served client seq part call said) ≡ true → ⊥
 no_follow store client seq part call said never e =
@@ -52,18 +49,9 @@ pub not_look : (store : NodeAndRows) (client seq part : ℕ) (call : Call) (said
 unfolding outcome
 not_look store client seq part call said dir name asked =
     stays store client seq part call said (no_follow store client seq part call said
-    (ap (λ x. carries (outcome_of store (ask_of client seq call) 0 x) said) asked ∙ look_carries (owns store.node dir (part_for store.node dir name)) _ said))
+    (ap (λ x. carries (outcome_of store (ask_of client seq call) 0 x) said) asked ∙ look_carries (owns store.node dir (part_for store.node dir name)) (frozen_at store.node dir name) _ _ _ said))
 
 -- what a change that may follow has to meet
-judged_new_of : (j : Judged) (own said : Final) → carries (by_judged j own) said ≡ true → (is_new_change j ≡ true) × (said ≡ own)
-judged_new_of New own said e = (refl, sym (same_finals own said e))
-judged_new_of (Again kept) own said e = cc
-judged_new_of (Old kept) own said e = cc
-
-pub owned_of : (b : Bool) (j : Judged) (own said : Final) → carries (cond b (by_judged j own) Silent) said ≡ true → (b ≡ true) × (is_new_change j ≡ true) × (said ≡ own)
-owned_of true j own said e = let h = judged_new_of j own said e in (refl, h.0, h.1)
-owned_of false j own said e = cc
-
 pub follows_means : (store : NodeAndRows) (client seq part : ℕ) (call : Call) (said : Final) (dir : ℕ) (name : List ℕ) → asked_of call ≡ ChangeOf dir name → may_follow store (Served client seq part call said) ≡ true
     → (may_carry store.node dir name client seq part ≡ true) × (said ≡ said_in store call dir name)
 unfolding outcome
@@ -71,9 +59,10 @@ follows_means store client seq part call said dir name asked e =
     let own = part_for store.node dir name in
     let h = and_parts (has_numbers store.node) _ e in
     let c = and_parts (carries (outcome store (ask_of client seq call) 0) said) (part == part_at store (asked_of call)) h.1 in
-    let o = owned_of (owns store.node dir own) (judge_kept (session_in store.node dir own client) seq) (said_in store call dir name) said (sym (ap (λ x. carries (outcome_of store (ask_of client seq call) 0 x) said) asked) ∙ c.0) in
+    let r = reached_carries store.node dir name _ said (sym (ap (outcome_of store (ask_of client seq call) 0) asked) ∙ carries_is _ said c.0) in
+    let o = judged_new (judge_kept (session_in store.node dir own client) seq) (said_in store call dir name) said r.here in
     let placed : part ≡ own = eqb-true part (part_at store (asked_of call)) c.1 ∙ ap (part_at store) asked in
-    (and_from _ _ (and_from _ _ (eq-eqb part own placed) (and_from _ _ h.0 o.0)) o.1, o.2)
+    (and_from _ _ (and_from _ _ (eq-eqb part own placed) (and_from _ _ h.0 (and_from _ _ r.own (ap (λ f. not (is_some f)) r.free)))) o.0, o.1)
 
 new_of : (j : Judged) → is_new_change j ≡ true → j ≡ New
 new_of New e = refl
@@ -84,15 +73,17 @@ pub record MayMeans (node : NodeV) (dir : ℕ) (name : List ℕ) (client seq par
   pub part' : part ≡ part_for node dir name
   pub numbers : has_numbers node ≡ true
   pub own : owns node dir (part_for node dir name) ≡ true
+  pub free : frozen_at node dir name ≡ None
   pub newer : judge_kept (session_in node dir (part_for node dir name) client) seq ≡ New
 
 pub carry_means : (node : NodeV) (dir : ℕ) (name : List ℕ) (client seq part : ℕ) → may_carry node dir name client seq part ≡ true → MayMeans node dir name client seq part
 carry_means node dir name client seq part e =
     let own = part_for node dir name in
     let h = and_parts (is_placed node dir name part) (is_new_change (judge_kept (session_in node dir own client) seq)) e in
-    let p = and_parts (part == own) (has_numbers node && owns node dir own) h.0 in
-    let n = and_parts (has_numbers node) (owns node dir own) p.1 in
-    record { part' = eqb-true part own p.0; numbers = n.0; own = n.1; newer = new_of (judge_kept (session_in node dir own client) seq) h.1 }
+    let p = and_parts (part == own) _ h.0 in
+    let n = and_parts (has_numbers node) _ p.1 in
+    let f = and_parts (owns node dir own) _ n.1 in
+    record { part' = eqb-true part own p.0; numbers = n.0; own = f.0; free = is_free (frozen_at node dir name) f.1; newer = new_of (judge_kept (session_in node dir own client) seq) h.1 }
 
 -- a change that may follow is carried out
 pub follows_so : (store : NodeAndRows) (client seq part : ℕ) (call : Call) (said : Final) (dir : ℕ) (name : List ℕ) → asked_of call ≡ ChangeOf dir name → may_carry store.node dir name client seq part ≡ true → said ≡ said_in store call dir name
@@ -103,7 +94,7 @@ follows_so store client seq part call said dir name asked may said' =
     let m = carry_means store.node dir name client seq part may in
     let is_carried : outcome store (ask_of client seq call) 0 ≡ Carries said =
     ap (outcome_of store (ask_of client seq call) 0) asked
-    ∙ ap (λ b. cond b (by_judged (judge_kept (session_in store.node dir own client) seq) (said_in store call dir name)) Silent) m.own
+    ∙ reached_here store.node dir name _ m.own m.free
     ∙ ap (λ j. by_judged j (said_in store call dir name)) m.newer
     ∙ ap Carries (sym said') in
     let first : carries (outcome store (ask_of client seq call) 0) said ≡ true = ap (λ o. carries o said) is_carried ∙ same_final_self said in
@@ -115,7 +106,7 @@ follows_so store client seq part call said dir name asked may said' =
 
 -- what may be noted here is noted in the partition that is located
 pub placed_is : (node : NodeV) (dir : ℕ) (name : List ℕ) (part : ℕ) → is_placed node dir name part ≡ true → part ≡ part_for node dir name
-placed_is node dir name part e = eqb-true part (part_for node dir name) (and_parts (part == part_for node dir name) (has_numbers node && owns node dir (part_for node dir name)) e).0
+placed_is node dir name part e = eqb-true part (part_for node dir name) (and_parts (part == part_for node dir name) _ e).0
 
 -- what is known of a change that is left to be made: it is new, and the one that is carried out
 pub record IsLeft (store : NodeAndRows) (client seq : ℕ) (call : Call) (dir : ℕ) (name : List ℕ) (change : Change) : Type 0 where

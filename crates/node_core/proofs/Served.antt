@@ -19,52 +19,64 @@ use Rattle.sessions.specs.declared.kept.Judged.TheVariants.{New}
 use Rattle.sessions.specs.Kept.{judge_kept}
 use Rattle.partition.specs.Rows.{written, edits_of}
 use Rattle.node_core.specs.declared.change.Change.{Change}
-use Rattle.node_core.specs.Nodes.{NodeAndRows, part_for, owns, session_in, row_in, rows_after, noted_in, edit_in, count_after}
+use Rattle.node_core.specs.Nodes.{NodeAndRows, frozen_at, bits_in, part_for, owns, session_in, row_in, rows_after, noted_in, edit_in, count_after}
 use Rattle.name_hash.specs.RowPlace.{row_key}
-use Rattle.node_core.specs.Rules.{ChangeOf, LookOf, NotServed, asked_of, said_of, said_in, found, Silent, Looks, by_judged, outcome, outcome_of}
+use Rattle.node_core.specs.Rules.{ChangeOf, LookOf, NotServed, asked_of, said_of, said_in, found, Outcome, Redirects, Waits, Looks, by_judged, reached, outcome, outcome_of}
 use Rattle.node_core.specs.Serving.{ServedV, served_as, serve_ask, answer_to, carried, carried_at, part_at}
 use Rattle.node_core.specs.Edits.{node_noted, parts_noted, numbers_of, CanBeMade}
 use Rattle.node_core.proofs.Calls.{each_change}
+use Rattle.node_core.proofs.Reached.{reached_away, reached_later, reached_here}
 
 abbrev nothing : NodeAndRows → ServedV
 nothing store = record { store = store; records = []; outputs = [] }
 
 module _ (store : NodeAndRows) (ask : Ask) (now dir : ℕ) (name : List ℕ) where
-  pub change_away : asked_of ask.call ≡ ChangeOf dir name → owns store.node dir (part_for store.node dir name) ≡ false → serve_ask store ask now ≡ nothing store
-  unfolding outcome
-  change_away asked away =
-      ap (λ a. served_as store ask (outcome_of store ask now a)) asked
-      ∙ ap (λ b. served_as store ask (cond b (by_judged (judge_kept (session_in store.node dir (part_for store.node dir name) ask.client) ask.seq) (said_in store ask.call dir name)) Silent)) away
+  -- what a change and a look come to in the partition of the name
+  abbrev change_here : Outcome
+  change_here = by_judged (judge_kept (session_in store.node dir (part_for store.node dir name) ask.client) ask.seq) (said_in store ask.call dir name)
 
-  pub look_away : asked_of ask.call ≡ LookOf dir name → owns store.node dir (part_for store.node dir name) ≡ false → serve_ask store ask now ≡ nothing store
-  unfolding outcome
-  look_away asked away =
-      ap (λ a. served_as store ask (outcome_of store ask now a)) asked
-      ∙ ap (λ b. served_as store ask (cond b (Looks (found (row_in store.rows dir (part_for store.node dir name) name) (now + store.node.setup.lease))) Silent)) away
+  abbrev look_here : Outcome
+  look_here = Looks (found (row_in store.rows dir (part_for store.node dir name) name) (now + store.node.setup.lease))
 
-  pub look_own : asked_of ask.call ≡ LookOf dir name → owns store.node dir (part_for store.node dir name) ≡ true
-      → serve_ask store ask now ≡ record { store = store; records = []; outputs = answer_to ask (found (row_in store.rows dir (part_for store.node dir name) name) (now + store.node.setup.lease)) ∷ [] }
+  change_as : asked_of ask.call ≡ ChangeOf dir name → (o : Outcome) → reached store.node dir name change_here ≡ o → serve_ask store ask now ≡ served_as store ask o
   unfolding outcome
-  look_own asked own =
-      ap (λ a. served_as store ask (outcome_of store ask now a)) asked
-      ∙ ap (λ b. served_as store ask (cond b (Looks (found (row_in store.rows dir (part_for store.node dir name) name) (now + store.node.setup.lease))) Silent)) own
+  change_as asked o is = ap (λ a. served_as store ask (outcome_of store ask now a)) asked ∙ ap (served_as store ask) is
 
-  pub change_judged : asked_of ask.call ≡ ChangeOf dir name → owns store.node dir (part_for store.node dir name) ≡ true → (j : Judged) → judge_kept (session_in store.node dir (part_for store.node dir name) ask.client) ask.seq ≡ j
+  look_as : asked_of ask.call ≡ LookOf dir name → (o : Outcome) → reached store.node dir name look_here ≡ o → serve_ask store ask now ≡ served_as store ask o
+  unfolding outcome
+  look_as asked o is = ap (λ a. served_as store ask (outcome_of store ask now a)) asked ∙ ap (served_as store ask) is
+
+  module _ (away : owns store.node dir (part_for store.node dir name) ≡ false) where
+    pub change_away : asked_of ask.call ≡ ChangeOf dir name → serve_ask store ask now ≡ served_as store ask (Redirects (bits_in store.node dir))
+    change_away asked = change_as asked _ (reached_away store.node dir name change_here away)
+
+    pub look_away : asked_of ask.call ≡ LookOf dir name → serve_ask store ask now ≡ served_as store ask (Redirects (bits_in store.node dir))
+    look_away asked = look_as asked _ (reached_away store.node dir name look_here away)
+
+  module _ (own : owns store.node dir (part_for store.node dir name) ≡ true) where
+    pub change_later : asked_of ask.call ≡ ChangeOf dir name → (depth : ℕ) → frozen_at store.node dir name ≡ Some depth → serve_ask store ask now ≡ served_as store ask (Waits (part_for store.node dir name) depth)
+    change_later asked depth is = change_as asked _ (reached_later store.node dir name change_here own depth is)
+
+    pub look_later : asked_of ask.call ≡ LookOf dir name → (depth : ℕ) → frozen_at store.node dir name ≡ Some depth → serve_ask store ask now ≡ served_as store ask (Waits (part_for store.node dir name) depth)
+    look_later asked depth is = look_as asked _ (reached_later store.node dir name look_here own depth is)
+
+    pub look_own : asked_of ask.call ≡ LookOf dir name → frozen_at store.node dir name ≡ None → serve_ask store ask now ≡ served_as store ask look_here
+    look_own asked free = look_as asked _ (reached_here store.node dir name look_here own free)
+
+  pub change_judged : asked_of ask.call ≡ ChangeOf dir name → owns store.node dir (part_for store.node dir name) ≡ true → frozen_at store.node dir name ≡ None
+      → (j : Judged) → judge_kept (session_in store.node dir (part_for store.node dir name) ask.client) ask.seq ≡ j
       → serve_ask store ask now ≡ served_as store ask (by_judged j (said_in store ask.call dir name))
-  unfolding outcome
-  change_judged asked own j judged =
-      ap (λ a. served_as store ask (outcome_of store ask now a)) asked
-      ∙ ap (λ b. served_as store ask (cond b (by_judged (judge_kept (session_in store.node dir (part_for store.node dir name) ask.client) ask.seq) (said_in store ask.call dir name)) Silent)) own
-      ∙ ap (λ x. served_as store ask (by_judged x (said_in store ask.call dir name))) judged
+  change_judged asked own free j judged =
+      change_as asked _ (reached_here store.node dir name change_here own free ∙ ap (λ x. by_judged x (said_in store ask.call dir name)) judged)
 
-  pub change_new : asked_of ask.call ≡ ChangeOf dir name → owns store.node dir (part_for store.node dir name) ≡ true → judge_kept (session_in store.node dir (part_for store.node dir name) ask.client) ask.seq ≡ New
+  pub change_new : asked_of ask.call ≡ ChangeOf dir name → owns store.node dir (part_for store.node dir name) ≡ true → frozen_at store.node dir name ≡ None → judge_kept (session_in store.node dir (part_for store.node dir name) ask.client) ask.seq ≡ New
       → serve_ask store ask now ≡ record {
         store = carried store ask.client ask.seq ask.call dir name;
         records = Served ask.client ask.seq (part_for store.node dir name) ask.call (said_in store ask.call dir name) ∷ [];
         outputs = answer_to ask (Said (said_in store ask.call dir name)) ∷ [];
       }
-  change_new asked own judged =
-      change_judged asked own New judged
+  change_new asked own free judged =
+      change_judged asked own free New judged
       ∙ ap (λ a. record {
         store = carried_at store ask.client ask.seq ask.call a;
         records = Served ask.client ask.seq (part_at store a) ask.call (said_in store ask.call dir name) ∷ [];

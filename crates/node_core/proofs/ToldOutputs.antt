@@ -11,7 +11,7 @@ use Rattle.records.specs.Messages.{client_of_msg}
 use Rattle.node_core.specs.Messages.{IsRequest, IsMessage, IsSent}
 use Rattle.node_core.specs.Nodes.{NodeAndRows}
 use Rattle.node_core.specs.Ranges.{RequestFits, DirFits}
-use Rattle.node_core.specs.Rules.{Outcome, Silent, Looks, Repeats, Carries, outcome, request_in}
+use Rattle.node_core.specs.Rules.{Outcome, Silent, Redirects, Waits, Looks, Repeats, Carries, outcome, request_in}
 use Rattle.node_core.specs.Serving.{serve, serve_request, served_as}
 use Rattle.node_core.proofs.Calls.{well_made_fits}
 
@@ -20,6 +20,8 @@ use Rattle.node_core.proofs.Calls.{well_made_fits}
 module _ (servers : ℕ) where
   sent_as : (store : NodeAndRows) (ask : Ask) (o : Outcome) → Each (served_as store ask o).outputs (λ k msg. IsSent servers msg)
   sent_as store ask Silent = each_none
+  sent_as store ask (Redirects bits) = each_push {xs = []} _ each_none (record { there = tt; made = tt })
+  sent_as store ask (Waits part depth) = each_push {xs = []} _ each_none (record { there = tt; made = tt })
   sent_as store ask (Looks reply) = each_push {xs = []} _ each_none (record { there = tt; made = tt })
   sent_as store ask (Repeats said) = each_push {xs = []} _ each_none (record { there = tt; made = tt })
   sent_as store ask (Carries said) = each_push {xs = []} _ each_none (record { there = tt; made = tt })
@@ -79,6 +81,8 @@ IsFirstReply ask (msg ∷ msgs) = RepliesTo ask msg
 
 first_as : (store : NodeAndRows) (ask : Ask) (o : Outcome) → IsFirstReply ask (served_as store ask o).outputs
 first_as store ask Silent = tt
+first_as store ask (Redirects bits) = record { client' = refl; seq' = refl; attempt' = refl }
+first_as store ask (Waits part depth) = record { client' = refl; seq' = refl; attempt' = refl }
 first_as store ask (Looks reply) = record { client' = refl; seq' = refl; attempt' = refl }
 first_as store ask (Repeats said) = record { client' = refl; seq' = refl; attempt' = refl }
 first_as store ask (Carries said) = record { client' = refl; seq' = refl; attempt' = refl }

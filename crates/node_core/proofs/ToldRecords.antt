@@ -1,6 +1,6 @@
 -- What is known of the records of a Serve: they have a spelling, may follow, and are in range. What stands above this
 -- crate goes by this, and not by what serving comes to.
-use Rattle.std.proofs.Common.{◌≡◌, ◌∙◌, sym, ap, subst, refl, ℕ, ◌+◌, ◌<◌, ◌≤◌, ◌==◌, List, [], ◌∷◌, length, Bool, true, false, cond, arith, Option, Some, None, MatchOption, if◌then◌else◌}
+use Rattle.std.proofs.Common.{◌≡◌, ◌∙◌, sym, ap, subst, refl, ℕ, ◌+◌, ◌<◌, ◌≤◌, ◌==◌, List, [], ◌∷◌, length, Bool, not, is_some, true, false, cond, arith, Option, Some, None, MatchOption, if◌then◌else◌}
 use Rattle.std.specs.Cmp.{eq_by_cmp_equiv}
 use Rattle.std.specs.FinMap as map
 use Rattle.std.specs.List.{AllByRecursion}
@@ -20,8 +20,6 @@ use Rattle.records.specs.declared.msg.Msg.{Msg}
 use Rattle.records.specs.declared.record.Record.{Record}
 use Rattle.records.specs.declared.record.Record.TheVariants.{Served}
 use Rattle.records.specs.Spelling.{IsRecord, IsDirectory, IsChange, MaySay, IsNumbered}
-use Rattle.sessions.specs.declared.kept.Judged.{Judged}
-use Rattle.sessions.specs.declared.kept.Judged.TheVariants.{New, Again, Old}
 use Rattle.sessions.specs.Kept.{judge_kept}
 use Rattle.mds_base.specs.Calls.{dir_of}
 use Rattle.mds_base.specs.Lists.{Each}
@@ -29,10 +27,10 @@ use Rattle.mds_base.proofs.Lists.{each_none}
 use Rattle.mds_base.proofs.Grow.{each_push}
 use Rattle.node_core.specs.Ranges.{RequestFits, DirFits, RecordFits}
 use Rattle.node_core.specs.Nodes.{NodeV, NodeAndRows, part_for, has_numbers, end_of_numbers, owns, session_in, row_in}
-use Rattle.node_core.specs.Rules.{Asked, ChangeOf, LookOf, NotServed, asked_of, said_of, said_in, Outcome, Silent, Looks, Repeats, Carries, by_judged, outcome, outcome_of, request_in}
+use Rattle.node_core.specs.Rules.{Asked, ChangeOf, LookOf, NotServed, asked_of, said_of, said_in, Outcome, Silent, Redirects, Waits, Looks, Repeats, Carries, by_judged, outcome, outcome_of, request_in}
 use Rattle.node_core.specs.Serving.{serve, serve_request, served_as, part_at, may_carry, is_new_change, all_follow}
 use Rattle.node_core.proofs.Calls.{each_change}
-use Rattle.node_core.proofs.ReplayLaw.{no_look}
+use Rattle.node_core.proofs.Reached.{reached_carries, judged_new, no_look}
 use Rattle.node_core.proofs.Replayed.{follows_so}
 use Rattle.node_core.proofs.Views.{part_fits}
 use Rattle.node_core.specs.Messages.{IsAsked, IsWellMade, IsRequest, IsMessage}
@@ -118,24 +116,16 @@ pub record AreServed (store : NodeAndRows) (items : List Record) : Type 0 where
 no_records : (store : NodeAndRows) → AreServed store []
 no_records store = record { each = tt; follow = refl; few = omega arith }
 
-judged_new : (j : Judged) (own said : Final) → by_judged j own ≡ Carries said → (is_new_change j ≡ true) × (said ≡ own)
-judged_new New own said e = (refl, cc)
-judged_new (Again kept) own said e = cc
-judged_new (Old kept) own said e = cc
-
-owned_new : (b : Bool) (j : Judged) (own said : Final) → cond b (by_judged j own) Silent ≡ Carries said → (b ≡ true) × ((is_new_change j ≡ true) × (said ≡ own))
-owned_new true j own said e = (refl, judged_new j own said e)
-owned_new false j own said e = cc
-
 module _ (store : NodeAndRows) (ask : Ask) (now : ℕ) (said : Final) (asked : IsAsked ask) (numbers : has_numbers store.node ≡ true) (few : store.node.server < SERVERS_MOST) (from_two : 2 ≤ store.node.next) where
   carried_record : (dir : ℕ) (name : List ℕ) → asked_of ask.call ≡ ChangeOf dir name → outcome_of store ask now (ChangeOf dir name) ≡ Carries said → AreServed store (Served ask.client ask.seq (part_at store (asked_of ask.call)) ask.call said ∷ [])
   carried_record dir name is carries =
       let own = part_for store.node dir name in
-      let o = owned_new (owns store.node dir own) (judge_kept (session_in store.node dir own ask.client) ask.seq) (said_in store ask.call dir name) said carries in
+      let r = reached_carries store.node dir name _ said carries in
+      let o = judged_new (judge_kept (session_in store.node dir own ask.client) ask.seq) (said_in store ask.call dir name) said r.here in
       let part : part_at store (asked_of ask.call) ≡ own = ap (part_at store) is in
       let placed : (part_at store (asked_of ask.call) == own) ≡ true = eq-eqb _ own part in
-      let may : may_carry store.node dir name ask.client ask.seq (part_at store (asked_of ask.call)) ≡ true = and_from _ _ (and_from _ _ placed (and_from _ _ numbers o.0)) o.1.0 in
-      let follows = follows_so store ask.client ask.seq (part_at store (asked_of ask.call)) ask.call said dir name is may o.1.1 in
+      let may : may_carry store.node dir name ask.client ask.seq (part_at store (asked_of ask.call)) ≡ true = and_from _ _ (and_from _ _ placed (and_from _ _ numbers (and_from _ _ r.own (ap (λ f. not (is_some f)) r.free)))) o.0 in
+      let follows = follows_so store ask.client ask.seq (part_at store (asked_of ask.call)) ask.call said dir name is may o.1 in
       let change = a_change ask.call dir name is asked.made in
       let before = row_in store.rows dir own name in
       let in_range : IsDirectory store.node.next = (omega arith, number_fits store.node numbers few) in
@@ -148,8 +138,8 @@ module _ (store : NodeAndRows) (ask : Ask) (now : ℕ) (said : Final) (asked : I
             fits = asked.fits;
             below = subst (λ (p : ℕ). p < 1024) (sym part) (part_fits store.node dir name);
             change = change;
-            reply = subst (MaySay ask.call) (sym o.1.1) (may_say store.node.next before ask.call dir name is);
-            numbered = subst IsNumbered (sym o.1.1) (numbered_at store.node.next before in_range ask.call dir name is);
+            reply = subst (MaySay ask.call) (sym o.1) (may_say store.node.next before ask.call dir name is);
+            numbered = subst IsNumbered (sym o.1) (numbered_at store.node.next before in_range ask.call dir name is);
           },
           tt,
         );
@@ -159,12 +149,14 @@ module _ (store : NodeAndRows) (ask : Ask) (now : ℕ) (said : Final) (asked : I
 
   carried_records : (a : Asked) → asked_of ask.call ≡ a → outcome_of store ask now a ≡ Carries said → AreServed store (Served ask.client ask.seq (part_at store (asked_of ask.call)) ask.call said ∷ [])
   carried_records (ChangeOf dir name) is carries = carried_record dir name is carries
-  carried_records (LookOf dir name) is carries = absurd (no_look (owns store.node dir (part_for store.node dir name)) _ said carries)
+  carried_records (LookOf dir name) is carries = absurd (no_look store.node dir name _ said carries)
   carried_records NotServed is carries = cc
 
 served_records : (store : NodeAndRows) (ask : Ask) (now : ℕ) (o : Outcome) → outcome store ask now ≡ o → IsAsked ask → has_numbers store.node ≡ true → store.node.server < SERVERS_MOST → 2 ≤ store.node.next → AreServed store (served_as store ask o).records
 unfolding outcome
 served_records store ask now Silent is asked numbers few from_two = no_records store
+served_records store ask now (Redirects bits) is asked numbers few from_two = no_records store
+served_records store ask now (Waits part depth) is asked numbers few from_two = no_records store
 served_records store ask now (Looks reply) is asked numbers few from_two = no_records store
 served_records store ask now (Repeats said) is asked numbers few from_two = no_records store
 served_records store ask now (Carries said) is asked numbers few from_two = carried_records store ask now said asked numbers few from_two (asked_of ask.call) refl is
@@ -182,6 +174,8 @@ serve_records store msg now made numbers few from_two = request_records store (r
 
 few_as : (store : NodeAndRows) (ask : Ask) (o : Outcome) → length (served_as store ask o).records ≤ 1
 few_as store ask Silent = omega arith
+few_as store ask (Redirects bits) = omega arith
+few_as store ask (Waits part depth) = omega arith
 few_as store ask (Looks reply) = omega arith
 few_as store ask (Repeats said) = omega arith
 few_as store ask (Carries said) = omega arith
@@ -198,6 +192,8 @@ few_records store msg now = few_for store (request_in msg) now
 
 records_as : (store : NodeAndRows) (ask : Ask) (o : Outcome) → dir_of ask.call < DIRECTORIES → Each (served_as store ask o).records (λ k item. RecordFits item)
 records_as store ask Silent fits = each_none
+records_as store ask (Redirects bits) fits = each_none
+records_as store ask (Waits part depth) fits = each_none
 records_as store ask (Looks reply) fits = each_none
 records_as store ask (Repeats said) fits = each_none
 records_as store ask (Carries said) fits = each_push {xs = []} _ each_none fits

@@ -1,5 +1,5 @@
 -- What a partition keeps of a client, and the row of a name, once a change was carried out.
-use Rattle.std.proofs.Common.{◌≡◌, ◌∙◌, sym, ap, refl, ℕ, ◌+◌, ◌<◌, length, List, Option, Some, None, cond, unwrap_or, Bool, true, false, [], ◌∷◌, inl, inr, lit<}
+use Rattle.std.proofs.Common.{◌≡◌, ◌∙◌, sym, ap, refl, ℕ, ◌+◌, ◌<◌, length, List, Option, Some, None, cond, unwrap_or, Bool, true, false, [], ◌∷◌, inl, inr, suc, ◌%◌, ◌^◌, ◌≤◌, arith, pow_pos, pow_mono, mod-lt}
 use Rattle.std.specs.declared.cmp.Ordering.{Ordering}
 use Rattle.std.specs.Ordering.{nat_cmp, eq_by_cmp}
 use Rattle.std.specs.Cmp.{IsTotalOrder, nat_cmp_total, eq_by_cmp_equiv}
@@ -24,9 +24,14 @@ use Rattle.mds_base.proofs.RowMaps.{row_keys_total, exact_row_keys}
 use Rattle.partition.specs.declared.partition.Partition.{Partition}
 use Rattle.partition.specs.Serving.{empty_part, part_noted}
 use Rattle.node_core.proofs.Keys.{same_or_apart}
-use Rattle.node_core.specs.Nodes.{NodeV, PartKey, PartMap, part_cmp, part_in, part_for, session_in, noted_in, row_in, rows_after, edit_in, count_after, new_node, part_cleared, cleared, cleared_part, parts_cleared}
+use Rattle.node_core.specs.Nodes.{NodeV, PartKey, PartMap, part_cmp, part_in, bits_in, part_for, session_in, noted_in, row_in, rows_after, edit_in, count_after, new_node, part_cleared, cleared, cleared_part, parts_cleared}
 use Rattle.mds_base.specs.declared.setup.Setup.{Setup}
 use Rattle.name_hash.specs.RowPlace.{row_key}
+use Rattle.mds_base.specs.declared.TheConstants.{RADIX}
+use Rattle.name_hash.specs.NameHash.{hash_of}
+use Rattle.chains.specs.Located.{located, run}
+use Rattle.chains.proofs.RunLengths.{run_le}
+use Rattle.bitmap.specs.Bits.{has}
 
 pub parts_total : IsTotalOrder part_cmp
 parts_total = then_total (on_total (λ (p : PartKey). p.0) nat_cmp_total) (on_total (λ (p : PartKey). p.1) nat_cmp_total)
@@ -176,5 +181,9 @@ session_new server setup dir part client =
 
 -- a partition that is located is one of a directory's
 pub part_fits : (node : NodeV) (dir : ℕ) (name : List ℕ) → part_for node dir name < 1024
-unfolding part_for
-part_fits node dir name = lit< tt
+unfolding part_for located
+part_fits node dir name =
+    let n : ℕ = run RADIX (λ i. has (bits_in node dir) (hash_of name % 2 ^ suc i)) in
+    let few : n ≤ 10 = run_le RADIX (λ i. has (bits_in node dir) (hash_of name % 2 ^ suc i)) in
+    let low : hash_of name % 2 ^ n < 2 ^ n = mod-lt (hash_of name) (pow_pos n) in
+    omega (arith, low, pow_mono {i = n} {j = 10} few)

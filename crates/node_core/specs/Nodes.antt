@@ -1,13 +1,16 @@
 -- What a server keeps, as a value: its next directory number, what it knows of the partitions of directories, and its
 -- own partitions. The rows stand beside the node.
 use Rattle.std.specs.Prelude.{ℕ, ◌+◌, ◌*◌, ◌-◌, ◌==◌, ◌&&◌, Bool, List, length, Option, Some, None, unwrap_or, nat_le}
+use Rattle.std.specs.Prelude.{if◌then◌else◌}
 use Rattle.std.specs.declared.cmp.Ordering.{Ordering}
 use Rattle.std.specs.Ordering.{nat_cmp, ordering_then}
 use Rattle.std.specs.FinMap as map
 use Rattle.std.specs.FinSet as set
-use Rattle.bitmap.specs.Bits.{Bits}
+use Rattle.bitmap.specs.Bits.{Bits, has}
+use Rattle.chains.specs.Located.{located}
 use Rattle.std.specs.Prelude.{map as list_map}
 use Rattle.mds_base.specs.declared.limits.TheConstants.{SERVER_DIRECTORIES, SERVE_DIRECTORIES}
+use Rattle.mds_base.specs.declared.TheConstants.{RADIX}
 use Rattle.mds_base.specs.declared.attr.Attr.{Attr}
 use Rattle.mds_base.specs.declared.call.Call.{Call}
 use Rattle.mds_base.specs.declared.reply.Final.{Final}
@@ -17,10 +20,14 @@ use Rattle.mds_base.specs.declared.edit.Edit.{Edit}
 use Rattle.mds_base.specs.PlainRules.{edit_of, given_by}
 use Rattle.mds_base.specs.RowKeys.{RowMap, edited_rows, edited_count}
 use Rattle.placement.specs.Placement.{server_of}
+use Rattle.name_hash.specs.NameHash.{hash_of}
 use Rattle.name_hash.specs.RowPlace.{row_key}
 use Rattle.sessions.specs.declared.kept.Kept.{Kept}
 use Rattle.partition.specs.declared.partition.Partition.{Partition}
 use Rattle.partition.specs.Serving.{empty_part, part_noted}
+use Rattle.mds_base.specs.declared.split_state.SplitState.{SplitState}
+use Rattle.mds_base.specs.declared.split_state.SplitState.TheVariants.{Quiet, Moving}
+use Rattle.split.specs.Halves.{is_frozen}
 use Rattle.split.specs.Pieces.{Collected}
 
 -- a partition's directory and its number there
@@ -103,10 +110,6 @@ session_in node dir part client = map.get (part_in node dir part).sessions clien
 abbrev pub server_for : ℕ → ℕ → ℕ → ℕ
 server_for servers dir part = server_of dir part servers
 
--- the partition that a node locates for a name of a directory: nothing splits, so each directory is its partition 0
-unfoldable pub part_for : NodeV → ℕ → List ℕ → ℕ
-part_for node dir name = 0
-
 -- partition 0 alone
 abbrev pub zero_bits : Bits
 zero_bits = set.insert set.empty 0
@@ -114,6 +117,19 @@ zero_bits = set.insert set.empty 0
 -- the partitions of a directory that a node knows
 abbrev pub bits_in : NodeV → ℕ → Bits
 bits_in node dir = unwrap_or (map.get node.bits dir) zero_bits
+
+-- the partition that a node locates for a name of a directory
+unfoldable pub part_for : NodeV → ℕ → List ℕ → ℕ
+part_for node dir name = located RADIX (hash_of name) (has (bits_in node dir))
+
+-- the depth at which a partition in this state moves a hash away, where it does
+abbrev pub frozen_in : SplitState → ℕ → Option ℕ
+frozen_in Quiet hash = None
+frozen_in (Moving depth) hash = if is_frozen (Moving depth) hash then Some depth else None
+
+-- the same of a name in the partition that a node locates for it
+abbrev pub frozen_at : NodeV → ℕ → List ℕ → Option ℕ
+frozen_at node dir name = frozen_in (part_in node dir (part_for node dir name)).split (hash_of name)
 
 -- whether a partition lies on the node's server
 abbrev pub owns : NodeV → ℕ → ℕ → Bool

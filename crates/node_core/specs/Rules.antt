@@ -18,7 +18,8 @@ use Rattle.sessions.specs.declared.kept.Judged.TheVariants.{New, Again, Old}
 use Rattle.sessions.specs.Kept.{judge_kept}
 use Rattle.node_core.specs.declared.asks.Asks.{Asks}
 use Rattle.node_core.specs.declared.asks.Asks.TheVariants.{Change, Look, NothingYet}
-use Rattle.node_core.specs.Nodes.{NodeAndRows, part_for, owns, row_in, session_in}
+use Rattle.bitmap.specs.Bits.{Bits}
+use Rattle.node_core.specs.Nodes.{NodeV, NodeAndRows, part_for, frozen_at, bits_in, owns, row_in, session_in}
 
 -- what a call asks for: a change on a name, a look at a name, or what is not served yet
 pub data Asked : Type 0 where
@@ -71,6 +72,10 @@ found (Some attr) until = Found attr until
 pub data Outcome : Type 0 where
   -- nothing changes, and nothing is sent
   Silent : Outcome
+  -- what is asked lies on another server, and the client learns this bitmap
+  Redirects : (bits : Bits) → Outcome
+  -- the name is in the half of this partition that moves at this depth
+  Waits : (part depth : ℕ) → Outcome
   -- a lookup is answered
   Looks : (reply : Reply) → Outcome
   -- the kept reply of a change is sent again
@@ -89,17 +94,27 @@ by_judged (Old kept) said = Silent
 abbrev pub said_in : NodeAndRows → Call → ℕ → List ℕ → Final
 said_in store call dir name = said_of call (row_in store.rows dir (part_for store.node dir name) name) store.node.next
 
--- a request of what lies on another server is not served as one's own
+-- a request on a name that is moved away waits
+abbrev pub unless_frozen : Option ℕ → ℕ → Outcome → Outcome
+unless_frozen None part outcome = outcome
+unless_frozen (Some depth) part outcome = Waits part depth
+
+-- a request on a name, by what it comes to in the partition of the name: one of what lies on another server is
+-- redirected
+abbrev pub reached : NodeV → ℕ → List ℕ → Outcome → Outcome
+reached node dir name outcome =
+    if owns node dir (part_for node dir name)
+    then unless_frozen (frozen_at node dir name) (part_for node dir name) outcome
+    else Redirects (bits_in node dir)
+
 abbrev pub outcome_of : NodeAndRows → Ask → ℕ → Asked → Outcome
 outcome_of store ask now (ChangeOf dir name) =
-    if owns store.node dir (part_for store.node dir name)
-    then by_judged (judge_kept (session_in store.node dir (part_for store.node dir name) ask.client) ask.seq)
-    (said_in store ask.call dir name)
-    else Silent
+    reached store.node dir name
+    (by_judged (judge_kept (session_in store.node dir (part_for store.node dir name) ask.client) ask.seq)
+    (said_in store ask.call dir name))
 outcome_of store ask now (LookOf dir name) =
-    if owns store.node dir (part_for store.node dir name)
-    then Looks (found (row_in store.rows dir (part_for store.node dir name) name) (now + store.node.setup.lease))
-    else Silent
+    reached store.node dir name
+    (Looks (found (row_in store.rows dir (part_for store.node dir name) name) (now + store.node.setup.lease)))
 outcome_of store ask now NotServed = Silent
 
 unfoldable pub outcome : NodeAndRows → Ask → ℕ → Outcome

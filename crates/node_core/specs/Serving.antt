@@ -1,13 +1,15 @@
 -- What serving a message does, what replaying a record does and when it may follow, and what a restart sets.
-use Rattle.std.specs.Prelude.{◌≡◌, ℕ, ◌&&◌, ◌==◌, Bool, true, false, List, [], ◌∷◌, ◌++◌, Option, Some, None}
+use Rattle.std.specs.Prelude.{◌≡◌, ℕ, ◌&&◌, ◌==◌, not, Bool, true, false, List, [], ◌∷◌, ◌++◌, Option, Some, None}
+use Rattle.std.specs.Prelude.{is_some}
 use Rattle.mds_base.specs.declared.ask.Ask.{Ask}
 use Rattle.mds_base.specs.declared.call.Call.{Call}
+use Rattle.mds_base.specs.Calls.{dir_of}
 use Rattle.mds_base.specs.declared.reply.Final.{Final}
 use Rattle.mds_base.specs.Finals.{same_final}
 use Rattle.mds_base.specs.declared.reply.Reply.{Reply}
 use Rattle.mds_base.specs.declared.reply.Reply.TheVariants.{Said}
 use Rattle.records.specs.declared.msg.Msg.{Msg}
-use Rattle.records.specs.declared.msg.Msg.TheVariants.{Answer}
+use Rattle.records.specs.declared.msg.Msg.TheVariants.{Answer, Busy, Redirect}
 use Rattle.mds_base.specs.RowKeys.{RowMap}
 use Rattle.records.specs.declared.handled.Handled.{Handled}
 use Rattle.records.specs.declared.record.Record.{Record}
@@ -16,9 +18,11 @@ use Rattle.sessions.specs.declared.kept.Judged.{Judged}
 use Rattle.sessions.specs.declared.kept.Judged.TheVariants.{New, Again, Old}
 use Rattle.sessions.specs.Kept.{judge_kept}
 use Rattle.node_core.specs.Nodes.{NodeV, NodeAndRows, owns, session_in, has_numbers, is_new, cleared, part_for}
+use Rattle.node_core.specs.Nodes.{frozen_at}
 use Rattle.node_core.specs.Nodes.{noted_in}
 use Rattle.node_core.specs.Nodes.{rows_after}
 use Rattle.node_core.specs.Rules.{Asked, ChangeOf, LookOf, NotServed, asked_of, said_in, Outcome, Silent, Looks}
+use Rattle.node_core.specs.Rules.{Redirects, Waits}
 use Rattle.node_core.specs.Rules.{Repeats, Carries, outcome, request_in}
 
 -- the store once a change on a name was carried out
@@ -52,6 +56,13 @@ answer_to ask reply = Answer ask.client ask.seq ask.attempt reply
 
 abbrev pub served_as : NodeAndRows → Ask → Outcome → ServedV
 served_as store ask Silent = record { store = store; records = []; outputs = [] }
+served_as store ask (Redirects bits) = record {
+  store = store;
+  records = [];
+  outputs = Redirect ask.client ask.seq ask.attempt (dir_of ask.call) bits ∷ [];
+}
+served_as store ask (Waits part depth) =
+    record { store = store; records = []; outputs = Busy ask.client ask.seq ask.attempt part depth ∷ [] }
 served_as store ask (Looks reply) = record { store = store; records = []; outputs = answer_to ask reply ∷ [] }
 served_as store ask (Repeats said) = record { store = store; records = []; outputs = answer_to ask (Said said) ∷ [] }
 served_as store ask (Carries said) =
@@ -105,7 +116,8 @@ is_new_change (Old kept) = false
 -- whether a change on a name of a directory may be noted in a partition of this server, as far as its session is aside
 abbrev pub is_placed : NodeV → ℕ → List ℕ → ℕ → Bool
 is_placed node dir name part =
-    (part == part_for node dir name) && (has_numbers node && owns node dir (part_for node dir name))
+    (part == part_for node dir name)
+    && (has_numbers node && (owns node dir (part_for node dir name) && not (is_some (frozen_at node dir name))))
 
 -- whether a change of a client would be noted there
 abbrev pub may_carry : NodeV → ℕ → List ℕ → ℕ → ℕ → ℕ → Bool

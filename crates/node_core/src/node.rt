@@ -1,12 +1,14 @@
 ghost use Rattle.std.specs.Prelude.{◌≡◌, ◌<◌, ◌≤◌};
 ghost use Rattle.std.specs.FinMap as map;
-ghost use Rattle.node_core.specs.Nodes.{new_node, owns, part_for, has_numbers, bits_in};
+ghost use Rattle.name_hash.specs.NameHash.{hash_of};
+ghost use Rattle.node_core.specs.Nodes.{new_node, owns, part_for, part_in, frozen_in, has_numbers, bits_in};
 ghost use Rattle.mds_base.specs.declared.limits.TheConstants.{DIRECTORIES, LEASE_MOST, SERVERS_MOST};
 ghost use Rattle.node_core.specs.Serving.{restarted};
 
 use bitmap::Bitmap;
 use mds_base::limits::{SERVE_DIRECTORIES, SERVER_DIRECTORIES};
-use mds_base::{Name, Setup};
+use mds_base::{Name, Setup, SplitState};
+use name_hash::hash;
 use partition::Partition;
 use placement::server_of;
 use split::Collector;
@@ -102,13 +104,25 @@ impl Node {
         let _moment = now;
     }
 
-    // The partition that the node locates for a name of a directory: partition 0, since nothing splits yet.
+    // The partition that the node locates for a name of a directory.
     pub(crate) fn part_for(&self, dir: u64, name: &Name) -> u32
         ensures { result ≡ part_for self.now dir name.now }
     {
-        let _dir = dir;
-        let _name = name;
-        0
+        match self.bits.get(&dir) {
+            // Partition 0 alone: every hash is located there.
+            None => 0,
+            Some(bits) => bits.locate(hash(name)),
+        }
+    }
+
+    // The depth at which a partition moves a name away, where it does.
+    pub(crate) fn frozen(&self, dir: u64, part: u32, name: &Name) -> Option<u32>
+        ensures { result ≡ frozen_in (part_in self.now dir part).split (hash_of name.now) }
+    {
+        match self.parts.get(&(dir, part)) {
+            None => None,
+            Some(partition) => frozen_depth(&partition.split, name),
+        }
     }
 
     // Whether a partition lies on this server.
@@ -117,5 +131,21 @@ impl Node {
         ensures { result ≡ owns self.now dir part }
     {
         server_of(dir, part, self.setup.servers) == self.server
+    }
+}
+
+// The depth at which a name is moved away in this state, where it is. A name is hashed only where a half moves.
+fn frozen_depth(state: &SplitState, name: &Name) -> Option<u32>
+    ensures { result ≡ frozen_in state.now (hash_of name.now) }
+{
+    match state {
+        SplitState::Quiet => None,
+        SplitState::Moving { depth } => {
+            if split::frozen(state, hash(name)) {
+                Some(*depth)
+            } else {
+                None
+            }
+        }
     }
 }

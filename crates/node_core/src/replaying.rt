@@ -141,7 +141,9 @@ impl Node {
         ensures { result ≡ is_placed self.now dir name.now part }
     {
         let own = self.part_for(dir, name);
-        part == own && (self.has_numbers() && self.owns(dir, own))
+        part == own
+            && (self.has_numbers()
+                && (self.owns(dir, own) && self.frozen(dir, own, name).is_none()))
     }
 }
 

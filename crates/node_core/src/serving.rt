@@ -1,11 +1,12 @@
 //! Serving a message: what it hands out and what is to be changed are worked out first, and then the change is made.
-ghost use Rattle.std.specs.Prelude.{◌≡◌, ℕ, ◌<◌, OnErr, IfOk, true};
+ghost use Rattle.std.specs.Prelude.{◌≡◌, ℕ, ◌<◌, ◌∷◌, [], OnErr, IfOk, None, true};
+ghost use Rattle.records.specs.declared.msg.Msg.{Msg};
 ghost use Rattle.mds_base.specs.RowsCause.{HasRowsCause};
 ghost use Rattle.mds_base.specs.declared.limits.TheConstants.{DIRECTORIES, MOMENTS};
 ghost use Rattle.mds_base.specs.Calls.{asked_of as call_on, dir_of};
 ghost use Rattle.partition.specs.Planning.{aside, change_plan};
 ghost use Rattle.partition.specs.Serving.{IsNewer};
-ghost use Rattle.node_core.specs.Nodes.{has_numbers, part_in};
+ghost use Rattle.node_core.specs.Nodes.{bits_in, has_numbers, part_in};
 ghost use Rattle.node_core.specs.Ranges.{DirFits};
 ghost use Rattle.node_core.specs.Rules.{ChangeOf, LookOf, asked_of, found};
 ghost use Rattle.node_core.specs.Planning.{IsPlanOf, IsPlan};
@@ -14,12 +15,12 @@ ghost use Rattle.node_core.specs.Serving.{serve, serve_ask, reminders, IsServed}
 use crate::asks::{Asks, asks_of, request_in};
 use crate::node::Node;
 use crate::plan::Plan;
-use crate::told::answered;
+use crate::told::{answered, busy, redirected};
 use mds_base::{Ask, Attr, Final, Name, Reply, Rows, RowsFault};
 use name_hash::row_key;
 use partition::{Partition, Plan as PartPlan};
 use records::{Handled, Msg, MsgList};
-use std::alloc::Global;
+use std::alloc::{AllocError, Global};
 
 impl Node {
     /// Serves a message: the records of the changes that were carried out and the messages to send are handed out
@@ -121,7 +122,10 @@ impl Node {
     {
         let part = self.part_for(dir, name);
         if !self.owns(dir, part) {
-            return Ok(Plan::idle(alloc));
+            return Ok(self.plan_redirect(alloc, ask, dir)?);
+        }
+        if let Some(depth) = self.frozen(dir, part, name) {
+            return Ok(plan_busy(alloc, ask, part, depth)?);
         }
         let key = row_key(alloc, dir, part, name)?;
         let attr = rows.get(&key)?;
@@ -150,10 +154,25 @@ impl Node {
         let _moment = now;
         let part = self.part_for(dir, name);
         if !self.owns(dir, part) {
-            return Ok(Plan::idle(alloc));
+            return Ok(self.plan_redirect(alloc, ask, dir)?);
+        }
+        if let Some(depth) = self.frozen(dir, part, name) {
+            return Ok(plan_busy(alloc, ask, part, depth)?);
         }
         let plan = self.plan_in(alloc, rows, ask, dir, part)?;
         Ok(Plan::of(alloc, ask, dir, part, plan)?)
+    }
+
+    // The plan of a request of what lies on another server: it is redirected.
+    fn plan_redirect(&self, alloc: Global, ask: &Ask, dir: u64) -> Result<Plan, AllocError>
+        ensures records { IfOk result (λ plan. plan.handled.records ≡ []) }
+        ensures outputs { IfOk result (λ plan. plan.handled.outputs
+            ≡ Msg.Redirect ask.now.client ask.now.seq ask.now.attempt (dir_of ask.now.call) (bits_in self.now dir)
+            ∷ []) }
+        ensures change { IfOk result (λ plan. plan.change ≡ None) }
+    {
+        let handled = redirected(alloc, ask, self.bitmap(dir))?;
+        Ok(Plan::unchanging(alloc, handled))
     }
 
     // The plan of a change in a partition. No lease is granted yet, so leases are set aside.
@@ -188,4 +207,15 @@ fn found(attr: Option<Attr>, until: u64) -> Reply
         None => Reply::Said(Final::Missing),
         Some(attr) => Reply::Found { attr, until },
     }
+}
+
+// The plan of a request on a name that a partition moves away.
+fn plan_busy(alloc: Global, ask: &Ask, part: u32, depth: u32) -> Result<Plan, AllocError>
+    ensures records { IfOk result (λ plan. plan.handled.records ≡ []) }
+    ensures outputs { IfOk result (λ plan. plan.handled.outputs
+        ≡ Msg.Busy ask.now.client ask.now.seq ask.now.attempt part depth ∷ []) }
+    ensures change { IfOk result (λ plan. plan.change ≡ None) }
+{
+    let handled = busy(alloc, ask, part, depth)?;
+    Ok(Plan::unchanging(alloc, handled))
 }

@@ -1,9 +1,12 @@
 ghost use Rattle.std.specs.Prelude.{◌≡◌, ◌∷◌, [], IfOk};
+ghost use Rattle.mds_base.specs.Calls.{dir_of};
+ghost use Rattle.records.specs.declared.msg.Msg.{Msg};
 ghost use Rattle.records.specs.declared.record.Record.{Record};
 ghost use Rattle.node_core.specs.Serving.{answer_to};
 
+use bitmap::Bitmap;
 use mds_base::{Ask, Final, Reply};
-use records::{Handled, Msg, MsgList, Record, RecordList};
+use records::{BoxedBitmap, Handled, Msg, MsgList, Record, RecordList};
 use std::alloc::{AllocError, Global};
 
 /// No record.
@@ -65,4 +68,44 @@ pub fn record_of(alloc: Global, ask: &Ask, part: u32, said: Final) -> Result<Rec
         said,
     })?;
     Ok(records)
+}
+
+/// The redirection of a request, with what this server knows of the directory.
+pub fn redirected(alloc: Global, ask: &Ask, bitmap: Bitmap) -> Result<Handled, AllocError>
+    ensures records { IfOk result (λ handled. handled.records ≡ []) }
+    ensures outputs { IfOk result (λ handled. handled.outputs
+        ≡ Msg.Redirect ask.now.client ask.now.seq ask.now.attempt (dir_of ask.now.call) bitmap ∷ []) }
+{
+    let mut outputs = MsgList::new(alloc);
+    outputs.push(Msg::Redirect {
+        client: ask.client,
+        seq: ask.seq,
+        attempt: ask.attempt,
+        dir: ask.call.dir(),
+        bitmap: BoxedBitmap::new(alloc, bitmap)?,
+    })?;
+    Ok(Handled {
+        records: RecordList::new(alloc),
+        outputs,
+    })
+}
+
+/// A request on a name that this partition moves away at this depth is to be sent again later.
+pub fn busy(alloc: Global, ask: &Ask, part: u32, depth: u32) -> Result<Handled, AllocError>
+    ensures records { IfOk result (λ handled. handled.records ≡ []) }
+    ensures outputs { IfOk result (λ handled. handled.outputs
+        ≡ Msg.Busy ask.now.client ask.now.seq ask.now.attempt part depth ∷ []) }
+{
+    let mut outputs = MsgList::new(alloc);
+    outputs.push(Msg::Busy {
+        client: ask.client,
+        seq: ask.seq,
+        attempt: ask.attempt,
+        part,
+        depth,
+    })?;
+    Ok(Handled {
+        records: RecordList::new(alloc),
+        outputs,
+    })
 }
