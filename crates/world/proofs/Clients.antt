@@ -101,7 +101,7 @@ module _ (t : Trace) (inv : Inv t) (k : ℕ) (seat new : ClientState) (is : slic
     answers = inv.answers;
     numbers = inv.numbers;
     doubt = inv.doubt;
-    bits = record { bits_kept = each_set k new inv.bits.bits_kept kept; sent_kept = inv.bits.sent_kept };
+    bits = record { bits_kept = each_set k new inv.bits.bits_kept kept; sent_kept = inv.bits.sent_kept; own_kept = inv.bits.own_kept };
   }
 
 pub bump_keeps : (t : Trace) → Inv t → (k : ℕ) (seat : ClientState) (pending : Pending) → MayBump t k seat pending → Inv (with_seat t k (record { client = resent seat.client pending; quit = seat.quit }))
@@ -212,7 +212,7 @@ module _ (t : Trace) (inv : Inv t) (k : ℕ) (seat : ClientState) (call : Call) 
     answers = inv.answers;
     numbers = inv.numbers;
     doubt = inv.doubt;
-    bits = record { bits_kept = each_set k opened inv.bits.bits_kept (inv.bits.bits_kept.at k seat may.is); sent_kept = inv.bits.sent_kept };
+    bits = record { bits_kept = each_set k opened inv.bits.bits_kept (inv.bits.bits_kept.at k seat may.is); sent_kept = inv.bits.sent_kept; own_kept = inv.bits.own_kept };
   }
 
 module _ (t : Trace) (inv : Inv t) (k : ℕ) (seat : ClientState) (pending : Pending) (attempt : ℕ) (reply : Reply) (place : ℕ) (may : MayClose t k seat pending attempt reply place) where
@@ -287,5 +287,5 @@ module _ (t : Trace) (inv : Inv t) (k : ℕ) (seat : ClientState) (pending : Pen
     };
     numbers = inv.numbers;
     doubt = inv.doubt;
-    bits = record { bits_kept = each_set k shut inv.bits.bits_kept (inv.bits.bits_kept.at k seat may.is); sent_kept = inv.bits.sent_kept };
+    bits = record { bits_kept = each_set k shut inv.bits.bits_kept (inv.bits.bits_kept.at k seat may.is); sent_kept = inv.bits.sent_kept; own_kept = inv.bits.own_kept };
   }

@@ -21,7 +21,7 @@ use Rattle.bitmap.specs.Bits.{has}
 use Rattle.sessions.specs.declared.kept.Kept.{Kept}
 use Rattle.sessions.specs.declared.kept.Judged.TheVariants.{New}
 use Rattle.sessions.specs.Kept.{judge_kept, seq_of}
-use Rattle.node_core.specs.Nodes.{NodeAndRows, new_node, first_number, end_of_numbers, has_numbers, server_for, part_for, session_in, row_in}
+use Rattle.node_core.specs.Nodes.{NodeAndRows, new_node, first_number, end_of_numbers, has_numbers, server_for, part_for, frozen_at, session_in, row_in}
 use Rattle.node_core.specs.Rules.{ChangeOf, LookOf, asked_of, said_in, request_in}
 use Rattle.node_core.specs.Serving.{carried_at}
 use Rattle.client_core.specs.declared.client.Pending.{Pending}
@@ -32,7 +32,7 @@ use Rattle.world.specs.declared.state.ClientState.{ClientState}
 use Rattle.mds_base.specs.Lists.{Each, Among, OnceBy}
 use Rattle.world.specs.Worlds.{store_of}
 use Rattle.world.specs.Law.{IsSettled}
-use Rattle.world.proofs.Keepers.{Keepers, keepers, IsKept}
+use Rattle.world.proofs.Keepers.{Keepers, keepers, IsKept, KeepsBits}
 use Rattle.world.specs.Events.{is_call, seat_at}
 use Rattle.world.specs.Histories.{MadeV, IssuedV, AnsweredV, Trace, Kind, Change, Looked, IsOfIssue, IsAnswerOf, entries_of}
 
@@ -229,6 +229,7 @@ AsksFor client seq call msg = AsksIf client seq call (request_in msg)
 pub record MayCarry (count : ℕ) (sent : List Msg) (s : ℕ) (store : NodeAndRows) (client seq : ℕ) (call : Call) (dir : ℕ) (name : List ℕ) : Type 0 where
   pub asked : asked_of call ≡ ChangeOf dir name
   pub owner : server_for count dir (part_for store.node dir name) ≡ s
+  pub free : frozen_at store.node dir name ≡ None
   pub newer : judge_kept (session_in store.node dir (part_for store.node dir name) client) seq ≡ New
   pub numbers : has_numbers store.node ≡ true
   pub told : Among sent (λ k m. AsksFor client seq call m)
@@ -257,17 +258,17 @@ pub record DoubtKept (count : ℕ) (sent : List Msg) (servers : List ServerState
   pub doubt_down : Each servers IsSettled
   pub doubt_follows : Each servers (λ s state. Follows count sent s (store_of state) state.doubt)
 
--- Bitmaps: each number of a client's bitmap is that of a partition which its server keeps
+-- Bitmaps: each number of a bitmap, of a server, of a client or sent, is that of a partition which its server keeps
 
 abbrev pub AreKept : Keepers → ClientV → Type 0
 AreKept who client = (dir part : ℕ) → has (bits_in client dir) part ≡ true → IsKept who dir part
 
--- and so is each number of a bitmap that was sent to a client
 abbrev pub BitsTrue : Keepers → Msg → Type 0
 BitsTrue who (Redirect client seq attempt dir bits) = (part : ℕ) → has bits part ≡ true → IsKept who dir part
 BitsTrue who msg = Unit {0}
 
-pub record BitsKept (who : Keepers) (clients : List ClientState) (sent : List Msg) : Type 0 where
+pub record BitsKept (who : Keepers) (servers : List ServerState) (clients : List ClientState) (sent : List Msg) : Type 0 where
+  pub own_kept : Each servers (λ s state. KeepsBits who state.node)
   pub bits_kept : Each clients (λ k seat. AreKept who seat.client)
   pub sent_kept : Each sent (λ k m. BitsTrue who m)
 
@@ -284,4 +285,4 @@ pub record Inv (t : Trace) : Type 0 where
   pub answers : AnswersKept t.world.sent t.past.made t.past.answered
   pub numbers : NumbersKept t.world.setup.servers (store_in t.world.servers) t.past.made
   pub doubt : DoubtKept t.world.setup.servers t.world.sent t.world.servers
-  pub bits : BitsKept keepers t.world.clients t.world.sent
+  pub bits : BitsKept keepers t.world.servers t.world.clients t.world.sent

@@ -1,8 +1,8 @@
 -- Each micro-step keeps the invariant.
 use Rattle.world.specs.Histories.{Trace}
 use Rattle.world.proofs.Invariant.{Inv}
-use Rattle.world.proofs.Steps.{Micro, Note, Redo, Look, Tell, Send, Open, Bump, Merge, Close, Quit, Down, Up, Tick, Count, may, does}
-use Rattle.world.proofs.Say.{send_keeps, tell_keeps, look_keeps}
+use Rattle.world.proofs.Steps.{Micro, Note, Redo, Look, Tell, Refer, Defer, Send, Open, Bump, Merge, Close, Quit, Down, Up, Tick, Count, may, does}
+use Rattle.world.proofs.Say.{send_keeps, tell_keeps, refer_keeps, defer_keeps, look_keeps}
 use Rattle.world.proofs.Clients.{open_keeps, bump_keeps, merge_keeps, close_keeps, quit_keeps}
 use Rattle.world.proofs.Servers.{noted_keeps, redo_keeps, down_keeps, up_keeps, tick_keeps, count_keeps}
 
@@ -11,6 +11,8 @@ keeps (Note s state client seq call dir name) t inv h = noted_keeps t inv s stat
 keeps (Redo s state client seq call dir name part said items) t inv h = redo_keeps t inv s state client seq call dir name part said items h
 keeps (Look s state ask dir name until) t inv h = look_keeps t inv s state ask dir name until h
 keeps (Tell client seq attempt said) t inv h = tell_keeps t inv client seq attempt said h
+keeps (Refer client seq attempt dir bits) t inv h = refer_keeps t inv client seq attempt dir bits h
+keeps (Defer client seq attempt part depth) t inv h = defer_keeps t inv client seq attempt part depth
 keeps (Send to ask cursor) t inv h = send_keeps t inv to ask cursor h
 keeps (Open k seat call) t inv h = open_keeps t inv k seat call h
 keeps (Bump k seat pending) t inv h = bump_keeps t inv k seat pending h

@@ -64,7 +64,7 @@ module _ (t : Trace) (inv : Inv t) (s : ℕ) (state : ServerState) (is : slice_g
   was = store_was t.world.servers s state is
 
   holds : keepers.holder dir name ≡ part
-  holds = own_holder state.node dir name
+  holds = own_holder state.node dir name (inv.bits.own_kept.at s state is)
 
   -- the row of the name, by the map
   pub before : map.get t.past.entries (dir, name) ≡ row_in store.rows dir part name

@@ -27,7 +27,7 @@ use Rattle.world.proofs.Stores.{store_here, store_apart}
 use Rattle.world.proofs.Tables.{allowed_change, given_change}
 use Rattle.mds_base.proofs.Lists.{all_push}
 use Rattle.world.proofs.Legal.{entries_push, GivesFresh, GivesWell, given_push, legal_push, map_push}
-use Rattle.world.proofs.Keepers.{keepers}
+use Rattle.world.proofs.Keepers.{keepers, noted_knows}
 use Rattle.world.proofs.Invariant.{Inv, Sizes, LegalKept, MadeKept, MessagesKept, AnswerTrue, AnswersKept, NumbersKept, IsWithinRange, IsGivenBelow, DoubtKept, Follows, MayCarry, store_in}
 use Rattle.world.proofs.Steps.{noted_state, note_at}
 use Rattle.world.proofs.Note.{issue, is_new, was, before, rows_note, sessions_note}
@@ -252,5 +252,10 @@ module _ (t : Trace) (inv : Inv t) (s : ℕ) (state : ServerState) (is : slice_g
       answers = answers_note;
       numbers = numbers_note new_stores here_now apart_now;
       doubt = doubt_note;
-      bits = inv.bits;
+      bits = record {
+        own_kept = each_set s next_state inv.bits.own_kept
+            (noted_knows keepers state.node state.rows dir part name client seq call said (inv.bits.own_kept.at s state is));
+        bits_kept = inv.bits.bits_kept;
+        sent_kept = inv.bits.sent_kept;
+      };
     }

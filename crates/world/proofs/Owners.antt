@@ -38,7 +38,7 @@ module _ (t : Trace) (inv : Inv t) (dir : ℕ) (name : List ℕ) where
   owner_is : (s : ℕ) (state : ServerState) → slice_get t.world.servers s ≡ Some state → owns_name state dir name ≡ true → owner ≡ s
   owner_is s state at owns' =
       let sizes = inv.sizes.servers_are.at s state at in
-      ap (server_for t.world.setup.servers dir) (own_holder state.node dir name)
+      ap (server_for t.world.setup.servers dir) (own_holder state.node dir name (inv.bits.own_kept.at s state at))
       ∙ owner_of (store_of state) dir (part_for state.node dir name) t.world.setup.servers s owns' (ap (λ (setup : Setup). setup.servers) sizes.setup') sizes.server
 
   pub has_owner : HasOwner t dir name
@@ -47,7 +47,7 @@ module _ (t : Trace) (inv : Inv t) (dir : ℕ) (name : List ℕ) where
       let state : ServerState = there.0 in
       let sizes = inv.sizes.servers_are.at owner state there.1 in
       let part : ℕ = part_for state.node dir name in
-      let holds : keepers.holder dir name ≡ part = own_holder state.node dir name in
+      let holds : keepers.holder dir name ≡ part = own_holder state.node dir name (inv.bits.own_kept.at owner state there.1) in
       let placed : owner ≡ server_for t.world.setup.servers dir part = ap (server_for t.world.setup.servers dir) holds in
       record {
         owner = record {

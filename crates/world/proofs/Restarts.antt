@@ -45,7 +45,7 @@ keeps_doubt (Served client seq part call said ∷ items) t inv s state is down d
     let own = is_store t inv s state is in
     let owner = owns_of (store_of state) dir (part_for state.node dir name) t.world.setup.servers s may.owner own.servers own.server in
     let can : may_follow (store_of state) (Served client seq part call said) ≡ true =
-    may_follow_true (store_of state) client seq part call said dir name may.asked owner may.newer may.numbers follows.0.said' follows.0.part' in
+    may_follow_true (store_of state) client seq part call said dir name may.asked owner may.free may.newer may.numbers follows.0.said' follows.0.part' in
     let redo : Micro = Redo s state client seq call dir name part said items in
     let may' : MayRedo t s state client seq call dir name part said items = record { is = is; down = down; first = doubt; asked = may.asked } in
     let next : ServerState = noted_state state client seq call dir name items in

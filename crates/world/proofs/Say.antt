@@ -1,5 +1,5 @@
 -- Messages that are sent keep the invariant: a request, the answer to a change, and the answer to a lookup.
-use Rattle.std.proofs.Common.{◌≡◌, ◌∙◌, sym, ap, subst, refl, ℕ, ◌≤◌, List, [], ◌∷◌, ◌++◌, length, Option, Some, inl, inr, arith}
+use Rattle.std.proofs.Common.{◌≡◌, ◌∙◌, sym, ap, subst, refl, ℕ, ◌≤◌, List, [], ◌∷◌, ◌++◌, length, Option, Some, inl, inr, arith, true}
 use Rattle.std.specs.List.{slice_get, AllByRecursion}
 use Rattle.std.specs.FinMap as map
 use Rattle.std.proofs.lemmas.List.{append-nil}
@@ -12,11 +12,12 @@ use Rattle.mds_base.specs.declared.reply.Reply.TheVariants.{Said}
 use Rattle.mds_base.specs.PlainRules.{Allows}
 use Rattle.mds_base.specs.History.{IsLegal, map_after, given}
 use Rattle.records.specs.declared.msg.Msg.{Msg}
-use Rattle.records.specs.declared.msg.Msg.TheVariants.{Request, Answer}
+use Rattle.records.specs.declared.msg.Msg.TheVariants.{Request, Answer, Redirect, Busy}
 use Rattle.records.specs.declared.record.Record.{Record}
 use Rattle.records.specs.declared.record.Record.TheVariants.{Head, Opened, Begin, Install, End, Served}
 use Rattle.node_core.specs.Nodes.{NodeAndRows, server_for, part_for, row_in, session_in}
 use Rattle.node_core.specs.Rules.{ChangeOf, asked_of, found}
+use Rattle.bitmap.specs.Bits.{Bits, has}
 use Rattle.sessions.specs.Kept.{seq_of}
 use Rattle.world.specs.declared.state.ServerState.{ServerState}
 use Rattle.mds_base.specs.Lists.{Each, Among}
@@ -26,14 +27,14 @@ use Rattle.mds_base.proofs.Grow.{get_front, get_last, get_pushed, among_more, am
 use Rattle.world.proofs.Stores.{store_was}
 use Rattle.world.proofs.Tables.{allowed_look, given_look, after_look}
 use Rattle.world.proofs.Legal.{entries_push, given_push, legal_push, map_push}
-use Rattle.world.proofs.Keepers.{keepers, own_holder}
+use Rattle.world.proofs.Keepers.{keepers, IsKept, own_holder}
 use Rattle.world.proofs.Invariant.{Inv, BitsTrue, LegalKept, MadeKept, IsSentAs, RequestTrue, AnswerTrue, IsTakenFrom, IsGivenBelow, DoubtKept, Follows, MayCarry, MayFollow, made_by, store_in}
 use Rattle.world.proofs.Steps.{with_msg, look_at, found_at, MayLook, MaySend, IsToldOf}
 use Rattle.world.proofs.Note.{told_issue}
 use Rattle.world.proofs.NoteRest.{answer_more}
 
 may_grow : (count : ℕ) (sent more : List Msg) (s : ℕ) (store : NodeAndRows) (client seq : ℕ) (call : Call) (dir : ℕ) (name : List ℕ) → MayCarry count sent s store client seq call dir name → MayCarry count (sent ++ more) s store client seq call dir name
-may_grow count sent more s store client seq call dir name m = record { asked = m.asked; owner = m.owner; newer = m.newer; numbers = m.numbers; told = among_more more m.told }
+may_grow count sent more s store client seq call dir name m = record { asked = m.asked; owner = m.owner; free = m.free; newer = m.newer; numbers = m.numbers; told = among_more more m.told }
 
 follow_grows : (count : ℕ) (sent more : List Msg) (s : ℕ) (store : NodeAndRows) (item : Record) → MayFollow count sent s store item → MayFollow count (sent ++ more) s store item
 follow_grows count sent more s store (Served client seq part call said) m =
@@ -91,7 +92,7 @@ module _ (t : Trace) (inv : Inv t) (msg : Msg) where
     answers = record { answered_taken = taken_said; answered_made = inv.answers.answered_made };
     numbers = inv.numbers;
     doubt = doubt_said;
-    bits = record { bits_kept = inv.bits.bits_kept; sent_kept = each_push msg inv.bits.sent_kept bits };
+    bits = record { own_kept = inv.bits.own_kept; bits_kept = inv.bits.bits_kept; sent_kept = each_push msg inv.bits.sent_kept bits };
   }
 
 pub send_keeps : (t : Trace) → Inv t → (to : ℕ) (ask : Ask) (cursor : Option Cursor) → MaySend t to ask → Inv (with_msg t (Request to ask cursor))
@@ -101,6 +102,13 @@ pub tell_keeps : (t : Trace) → Inv t → (client seq attempt : ℕ) (said : Fi
 tell_keeps t inv client seq attempt said told =
     msg_keeps t inv (Answer client seq attempt (Said said)) tt
     (among_map told (λ k e h. record { client' = h.client'; seq' = h.seq'; reply' = h.reply'; kind = inl h.kind })) tt
+
+-- a redirection tells a client of kept partitions, and a Busy nothing
+pub refer_keeps : (t : Trace) → Inv t → (client seq attempt dir : ℕ) (bits : Bits) → ((part : ℕ) → has bits part ≡ true → IsKept keepers dir part) → Inv (with_msg t (Redirect client seq attempt dir bits))
+refer_keeps t inv client seq attempt dir bits kept = msg_keeps t inv (Redirect client seq attempt dir bits) tt tt kept
+
+pub defer_keeps : (t : Trace) → Inv t → (client seq attempt part depth : ℕ) → Inv (with_msg t (Busy client seq attempt part depth))
+defer_keeps t inv client seq attempt part depth = msg_keeps t inv (Busy client seq attempt part depth) tt tt tt
 
 module _ (t : Trace) (inv : Inv t) (s : ℕ) (state : ServerState) (ask : Ask) (dir : ℕ) (name : List ℕ) (until : ℕ) (may : MayLook t s state ask dir name) where
   abbrev servers : ℕ
@@ -150,7 +158,7 @@ module _ (t : Trace) (inv : Inv t) (s : ℕ) (state : ServerState) (ask : Ask) (
   before : map.get t.past.entries (dir, name) ≡ row_in state.rows dir part name
   before =
       inv.rows.map_rows dir name
-      ∙ ap (λ p. row_in (store_in t.world.servers (server_for servers dir p)).rows dir p name) (own_holder state.node dir name)
+      ∙ ap (λ p. row_in (store_in t.world.servers (server_for servers dir p)).rows dir p name) (own_holder state.node dir name (inv.bits.own_kept.at s state may.is))
       ∙ ap (λ j. row_in (store_in t.world.servers j).rows dir part name) may.owner
       ∙ ap (λ (v : NodeAndRows). row_in v.rows dir part name) (store_was t.world.servers s state may.is)
 
@@ -202,5 +210,5 @@ module _ (t : Trace) (inv : Inv t) (s : ℕ) (state : ServerState) (ask : Ask) (
       given_below = subst (AllByRecursion (IsGivenBelow servers (store_in t.world.servers))) (sym given_same) inv.numbers.given_below;
     };
     doubt = doubt_said t inv msg;
-    bits = record { bits_kept = inv.bits.bits_kept; sent_kept = each_push msg inv.bits.sent_kept tt };
+    bits = record { own_kept = inv.bits.own_kept; bits_kept = inv.bits.bits_kept; sent_kept = each_push msg inv.bits.sent_kept tt };
   }

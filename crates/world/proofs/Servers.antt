@@ -16,7 +16,7 @@ use Rattle.mds_base.proofs.Grow.{each_map, each_set, length_set}
 use Rattle.world.proofs.Choices.{nat_or_apart}
 use Rattle.world.proofs.Stores.{store_was, store_here, store_apart}
 use Rattle.world.proofs.Tables.{one_place}
-use Rattle.world.proofs.Keepers.{keepers}
+use Rattle.world.proofs.Keepers.{keepers, KeepsBits}
 use Rattle.world.proofs.Invariant.{Inv, RowsKept, SessionsKept, NumbersKept, Follows, MayCarry, store_in}
 use Rattle.world.proofs.Steps.{with_server, note_at, MayNote, MayRedo, MayDown, does, Tick, Count}
 use Rattle.world.proofs.NoteRest.{note_keeps}
@@ -53,7 +53,11 @@ module _ (t : Trace) (inv : Inv t) (s : ℕ) (state new : ServerState) (is : sli
       doubt_down = each_set s new inv.doubt.doubt_down settled;
       doubt_follows = each_set s new inv.doubt.doubt_follows follows;
     };
-    bits = inv.bits;
+    bits = record {
+      own_kept = each_set s new inv.bits.own_kept (subst (λ (v : NodeAndRows). KeepsBits keepers v.node) (sym same) (inv.bits.own_kept.at s state is));
+      bits_kept = inv.bits.bits_kept;
+      sent_kept = inv.bits.sent_kept;
+    };
   }
 
 pub down_keeps : (t : Trace) → Inv t → (s : ℕ) (state : ServerState) (doubt : List Record) → MayDown t s state doubt → Inv (with_server t s (record { node = state.node; rows = state.rows; up = false; doubt = doubt }))

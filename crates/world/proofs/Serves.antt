@@ -15,8 +15,11 @@ use Rattle.mds_base.proofs.Grow.{set_here, set_same, set_twice, among_last, amon
 use Rattle.mds_base.proofs.Lists.{all_map}
 use Rattle.records.specs.declared.msg.Msg.{Msg}
 use Rattle.records.specs.declared.record.Record.{Record}
-use Rattle.node_core.specs.Nodes.{NodeAndRows, has_numbers, server_for, part_for, session_in}
-use Rattle.node_core.specs.Rules.{Asked, ChangeOf, LookOf, NotServed, asked_of, said_in, Outcome, Silent, Looks, Repeats, Carries, outcome, request_in}
+use Rattle.node_core.specs.Nodes.{NodeAndRows, has_numbers, server_for, part_for, session_in, bits_in}
+use Rattle.node_core.specs.Rules.{Asked, ChangeOf, LookOf, NotServed, asked_of, said_in, Outcome, Silent, Looks, Repeats, Carries, outcome, request_in, Redirects, Waits}
+use Rattle.mds_base.specs.Calls.{dir_of}
+use Rattle.bitmap.specs.Bits.{Bits, has}
+use Rattle.records.specs.declared.msg.Msg.TheVariants.{Redirect, Busy}
 use Rattle.node_core.specs.Serving.{ServedV, served_as, serve_request, serve, serve_all, answer_to, carried_at, part_at}
 use Rattle.node_core.proofs.Views.{noted_server, noted_setup}
 use Rattle.world.specs.declared.event.ServeEnd.{ServeEnd}
@@ -30,9 +33,10 @@ use Rattle.world.specs.Histories.{History, Trace, MadeV, Change, changed, weighe
 use Rattle.world.proofs.Choices.{two_places}
 use Rattle.world.proofs.Stores.{store_was}
 use Rattle.world.proofs.Invariant.{Inv, MayCarry, AsksFor, AsksIf, Follows, made_by, store_in}
-use Rattle.world.proofs.Steps.{Note, Look, Tell, Down, note_at, found_at, IsToldOf}
+use Rattle.world.proofs.Keepers.{keepers, IsKept}
+use Rattle.world.proofs.Steps.{Note, Look, Tell, Refer, Defer, Down, note_at, found_at, IsToldOf}
 use Rattle.world.proofs.Reaches.{Reaches, here, step, over, goes_on, reaches_keeps}
-use Rattle.world.proofs.Outcomes.{OutcomeTrue, LooksTrue, RepeatsTrue, CarriesTrue, outcome_true, owner_of}
+use Rattle.world.proofs.Outcomes.{OutcomeTrue, RedirectsTrue, LooksTrue, RepeatsTrue, CarriesTrue, outcome_true, owner_of}
 
 -- the store of a server, by its number and by how many servers there are
 pub record IsStoreOf (count s : ℕ) (store : NodeAndRows) : Type 0 where
@@ -58,11 +62,13 @@ still_store count s store ask NotServed i = i
 module _ (count : ℕ) (sent : List Msg) (s : ℕ) (store : NodeAndRows) (own : IsStoreOf count s store) (numbers : has_numbers store.node ≡ true) (ask : Ask)
     (told : Among sent (λ k m. AsksFor ask.client ask.seq ask.call m)) where
   may_carry : (said : Final) (c : CarriesTrue store ask said) → MayCarry count sent s store ask.client ask.seq ask.call c.dir c.name
-  may_carry said c = record { asked = c.asked; owner = owner_of store c.dir (part_for store.node c.dir c.name) count s c.owner own.servers own.server; newer = c.newer; numbers = numbers; told = told }
+  may_carry said c = record { asked = c.asked; owner = owner_of store c.dir (part_for store.node c.dir c.name) count s c.owner own.servers own.server; free = c.free; newer = c.newer; numbers = numbers; told = told }
 
   -- the records of serving it may be made
   as_follows : (o : Outcome) (now : ℕ) → OutcomeTrue store ask now o → Follows count sent s store (served_as store ask o).records
   as_follows Silent now h = tt
+  as_follows (Redirects bits) now h = tt
+  as_follows (Waits part depth) now h = tt
   as_follows (Looks reply) now h = tt
   as_follows (Repeats said) now h = tt
   as_follows (Carries said) now c = (record { dir = c.dir; name = c.name; may = may_carry said c; said' = c.said'; part' = ap (part_at store) c.asked }, tt)
@@ -116,6 +122,20 @@ module _ (t : Trace) (inv : Inv t) (s : ℕ) (state : ServerState) (is : slice_g
       subst (λ a. Reaches t (record { world = say (set_server t.world s state) (answer_to ask (Said said) ∷ []); past = past.looked_as t.past ask a (Said said) (length t.world.sent) })) (sym r.asked)
       (said_with t s state is (answer_to ask (Said said)) t.past (step (Tell ask.client ask.seq ask.attempt said) source here))
 
+  -- a redirection names kept partitions alone
+  as_redirects : (bits : Bits) → RedirectsTrue own_store ask bits → Reaches t (done_as t s state ask (Redirects bits))
+  as_redirects bits r =
+      let known : (part : ℕ) → has (bits_in state.node r.dir) part ≡ true → IsKept keepers r.dir part = inv.bits.own_kept.at s state is r.dir in
+      let kept : (part : ℕ) → has bits part ≡ true → IsKept keepers (dir_of ask.call) part =
+      λ part there. subst (λ (d : ℕ). IsKept keepers d part) (sym r.on) (known part (sym (ap (λ (b : Bits). has b part) r.bits') ∙ there)) in
+      said_with t s state is (Redirect ask.client ask.seq ask.attempt (dir_of ask.call) bits) t.past
+      (step (Refer ask.client ask.seq ask.attempt (dir_of ask.call) bits) kept here)
+
+  as_waits : (part depth : ℕ) → Reaches t (done_as t s state ask (Waits part depth))
+  as_waits part depth =
+      said_with t s state is (Busy ask.client ask.seq ask.attempt part depth) t.past
+      (step (Defer ask.client ask.seq ask.attempt part depth) tt here)
+
   as_carries : (said : Final) → CarriesTrue own_store ask said → Reaches t (done_as t s state ask (Carries said))
   as_carries said c =
       let own : Final = said_in own_store ask.call c.dir c.name in
@@ -135,6 +155,8 @@ module _ (t : Trace) (inv : Inv t) (s : ℕ) (state : ServerState) (is : slice_g
 
   as_reaches : (o : Outcome) → OutcomeTrue own_store ask t.world.now o → Reaches t (done_as t s state ask o)
   as_reaches Silent h = nothing t s state is
+  as_reaches (Redirects bits) h = as_redirects bits h
+  as_reaches (Waits part depth) h = as_waits part depth
   as_reaches (Looks reply) h = as_looks reply h
   as_reaches (Repeats said) h = as_repeats said h
   as_reaches (Carries said) h = as_carries said h
@@ -187,6 +209,8 @@ follows_after count sent s (item ∷ items) more store first then' = (first.0, f
 -- the records of serving make the store that it gives
 as_made : (store : NodeAndRows) (ask : Ask) (o : Outcome) → made_all store (served_as store ask o).records ≡ (served_as store ask o).store
 as_made store ask Silent = refl
+as_made store ask (Redirects bits) = refl
+as_made store ask (Waits part depth) = refl
 as_made store ask (Looks reply) = refl
 as_made store ask (Repeats said) = refl
 as_made store ask (Carries said) = refl
@@ -197,6 +221,8 @@ msg_made store (Some ask) now = as_made store ask (outcome store ask now)
 
 as_store : (count s : ℕ) (store : NodeAndRows) → IsStoreOf count s store → (ask : Ask) (o : Outcome) → IsStoreOf count s (served_as store ask o).store
 as_store count s store own ask Silent = own
+as_store count s store own ask (Redirects bits) = own
+as_store count s store own ask (Waits part depth) = own
 as_store count s store own ask (Looks reply) = own
 as_store count s store own ask (Repeats said) = own
 as_store count s store own ask (Carries said) = still_store count s store ask (asked_of ask.call) own

@@ -26,7 +26,7 @@ use Rattle.world.specs.Histories.{Trace}
 use Rattle.world.specs.Law.{row_or, row_at, start_trace, new_servers, opened}
 use Rattle.world.proofs.Known.{same_key}
 use Rattle.std.proofs.lemmas.Bool.{or_cases}
-use Rattle.world.proofs.Keepers.{keepers, IsKept, root_kept, zero_holder}
+use Rattle.world.proofs.Keepers.{keepers, IsKept, root_kept, zero_holder, KeepsBits, new_knows}
 use Rattle.world.proofs.Invariant.{Inv, IsServer, IsClient, AreKept, IsWithinRange, Follows, store_in, store_or}
 use Rattle.mds_base.proofs.Grow.{within}
 use Rattle.mds_base.proofs.Lists.{get_below, get_mapped, ranged, ranged_length, mapped_length, each_none, once_none}
@@ -38,6 +38,7 @@ pub record IsStartServer (setup : Setup) (s : ℕ) (state : ServerState) : Type 
   pub doubt : state.doubt ≡ []
   pub sessions : (dir part client : ℕ) → session_in state.node dir part client ≡ None
   pub next : IsWithinRange s (store_of state)
+  pub knows : KeepsBits keepers state.node
 
 pub record IsStart (setup : Setup) (servers : List ServerState) (entries : Entries) : Type 0 where
   pub some_servers : 0 < setup.servers
@@ -133,7 +134,7 @@ module _ (setup : Setup) (servers : List ServerState) (entries : Entries) (start
       doubt_down = record { at = λ k state is up. (start.each.at k state is).doubt };
       doubt_follows = record { at = λ k state is. subst (Follows setup.servers [] k (store_of state)) (sym (start.each.at k state is).doubt) tt };
     };
-    bits = record { sent_kept = each_none; bits_kept = record { at = λ k seat at. subst (λ (s : ClientState). AreKept keepers s.client) (seats k seat at) (zero_kept (1 + k)) } };
+    bits = record { own_kept = record { at = λ k state is. (start.each.at k state is).knows }; sent_kept = each_none; bits_kept = record { at = λ k seat at. subst (λ (s : ClientState). AreKept keepers s.client) (seats k seat at) (zero_kept (1 + k)) } };
   }
 
 -- New servers are a start
@@ -157,6 +158,7 @@ start_new setup some = record {
           doubt = refl;
           sessions = session_new k setup;
           next = record { from = omega arith; to = omega arith };
+          knows = new_knows k setup;
         });
   };
   rows = λ dir name. map.get-empty place_cmp (dir, name) ∙ sym (row_of_new setup 0 setup.servers (server_for setup.servers dir 0) dir name);
@@ -186,6 +188,7 @@ start_again t inv up terms share = record {
           doubt = inv.doubt.doubt_down.at k g.0 g.1 (up k g.0 g.1);
           sessions = session_cleared (node_on terms g.0.node);
           next = record { from = range.from; to = range.to };
+          knows = inv.bits.own_kept.at k g.0 g.1;
         });
   };
   rows = λ dir name.

@@ -10,7 +10,7 @@ use Rattle.mds_base.specs.declared.reply.Final.{Final}
 use Rattle.mds_base.specs.declared.reply.Reply.{Reply}
 use Rattle.mds_base.specs.declared.reply.Reply.TheVariants.{Said}
 use Rattle.records.specs.declared.msg.Msg.{Msg}
-use Rattle.records.specs.declared.msg.Msg.TheVariants.{Request, Answer}
+use Rattle.records.specs.declared.msg.Msg.TheVariants.{Request, Answer, Redirect, Busy}
 use Rattle.records.specs.declared.record.Record.{Record}
 use Rattle.records.specs.declared.record.Record.TheVariants.{Served}
 use Rattle.bitmap.specs.Bits.{Bits, has}
@@ -39,6 +39,9 @@ pub data Micro : Type 0 where
   Look : (s : ℕ) (state : ServerState) (ask : Ask) (dir : ℕ) (name : List ℕ) (until : ℕ) → Micro
   -- a server answers a change that was carried out
   Tell : (client seq attempt : ℕ) (said : Final) → Micro
+  -- a server redirects a client, and tells it to send again later
+  Refer : (client seq attempt dir : ℕ) (bits : Bits) → Micro
+  Defer : (client seq attempt part depth : ℕ) → Micro
   -- a client's call is sent
   Send : (to : ℕ) (ask : Ask) (cursor : Option Cursor) → Micro
   -- a client opens a call, raises the attempt number, merges a bitmap, takes an answer, gives up
@@ -110,6 +113,8 @@ does t (Note s state client seq call dir name) = note_at t s state client seq ca
 does t (Redo s state client seq call dir name part said items) = note_at t s state client seq call dir name items
 does t (Look s state ask dir name until) = look_at t state ask dir name until
 does t (Tell client seq attempt said) = with_msg t (Answer client seq attempt (Said said))
+does t (Refer client seq attempt dir bits) = with_msg t (Redirect client seq attempt dir bits)
+does t (Defer client seq attempt part depth) = with_msg t (Busy client seq attempt part depth)
 does t (Send to ask cursor) = with_msg t (Request to ask cursor)
 does t (Open k seat call) = open_at t k seat call
 does t (Bump k seat pending) = with_seat t k (record { client = resent seat.client pending; quit = seat.quit })
@@ -180,6 +185,8 @@ may t (Note s state client seq call dir name) = MayNote t s state client seq cal
 may t (Redo s state client seq call dir name part said items) = MayRedo t s state client seq call dir name part said items
 may t (Look s state ask dir name until) = MayLook t s state ask dir name
 may t (Tell client seq attempt said) = Among t.past.made (λ k e. IsToldOf e client seq said)
+may t (Refer client seq attempt dir bits) = (part : ℕ) → has bits part ≡ true → IsKept keepers dir part
+may t (Defer client seq attempt part depth) = Unit {0}
 may t (Send to ask cursor) = MaySend t to ask
 may t (Open k seat call) = MayOpen t k seat call
 may t (Bump k seat pending) = MayBump t k seat pending

@@ -1,30 +1,17 @@
 -- Where clients send their calls: to a partition that its server keeps.
-use Rattle.std.proofs.Common.{◌≡◌, ◌∙◌, ap, ℕ, zero, suc, ◌%◌, ◌^◌, ◌<◌, Bool, true, List, arith}
-use Rattle.std.proofs.Math.Nat.{mod-one}
+use Rattle.std.proofs.Common.{◌≡◌, ℕ, true, List}
 use Rattle.std.proofs.lemmas.Bool.{and_parts}
 use Rattle.mds_base.specs.declared.TheConstants.{RADIX}
 use Rattle.mds_base.specs.declared.call.Call.{Call}
 use Rattle.mds_base.specs.Calls.{dir_of, is_well_made}
 use Rattle.bitmap.specs.Bits.{has}
-use Rattle.chains.specs.Located.{located, run}
-use Rattle.chains.proofs.RunLengths.{run_before}
 use Rattle.name_hash.specs.NameHash.{hash_of}
 use Rattle.client_core.specs.Clients.{ClientV, bits_in, located_in, target_of}
 use Rattle.node_core.specs.Rules.{is_served}
 use Rattle.node_core.proofs.Calls.{each_served}
 use Rattle.world.specs.Events.{is_call}
-use Rattle.world.proofs.Keepers.{keepers, IsKept, root_kept}
+use Rattle.world.proofs.Keepers.{keepers, IsKept, root_kept, located_by}
 use Rattle.world.proofs.Invariant.{AreKept}
-
-by_run : (h : ℕ) (kept : ℕ → Bool) → kept 0 ≡ true → (n : ℕ) → ((i : ℕ) → i < n → kept (h % 2 ^ suc i) ≡ true) → kept (h % 2 ^ n) ≡ true
-by_run h kept root zero each = ap kept (mod-one h) ∙ root
-by_run h kept root (suc n) each = each n (omega arith)
-
--- what is located in a set of kept partitions is kept
-located_by : (r h : ℕ) (set kept : ℕ → Bool) → kept 0 ≡ true → ((x : ℕ) → set x ≡ true → kept x ≡ true) → kept (located r h set) ≡ true
-unfolding located
-located_by r h set kept root within =
-    by_run h kept root (run r (λ i. set (h % 2 ^ suc i))) (λ i lt. within (h % 2 ^ suc i) (run_before r (λ j. set (h % 2 ^ suc j)) i lt))
 
 located_kept : (client : ClientV) (dir : ℕ) (name : List ℕ) → AreKept keepers client → IsKept keepers dir (located_in client dir name)
 located_kept client dir name kept = located_by RADIX (hash_of name) (has (bits_in client dir)) (keepers.kept dir) (root_kept dir) (kept dir)
